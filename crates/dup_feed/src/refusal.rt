@@ -1,0 +1,38 @@
+ghost use Rattle.std.specs.Prelude.{◌≡◌};
+
+use dup_names::NoMemory;
+use std::alloc::AllocFailed;
+
+/// Why bytes are no commit.
+#[derive(Clone, Copy, Debug, PartialEq, Eq)]
+pub enum FeedRefusal {
+    /// They are no JSON text.
+    NotJson,
+    /// The value isn't an object with one array of changes, where this is 0; else the number of
+    /// the first element that isn't a change, from 1.
+    Shape(u32),
+    /// How many elements there are, where these are more than 256.
+    TooMany(u64),
+    /// Want of memory.
+    NoMemory,
+}
+
+impl From<NoMemory> for FeedRefusal {
+    ghost use Rattle.dup_feed.specs.declared.refusal.FeedRefusal.TheVariants.{NoMemory};
+
+    ghost from_gives = { λ _ e. e ≡ NoMemory };
+
+    fn from(_fault: NoMemory) -> FeedRefusal {
+        FeedRefusal::NoMemory
+    }
+}
+
+impl<T: Drop> From<AllocFailed<T>> for FeedRefusal {
+    ghost use Rattle.dup_feed.specs.declared.refusal.FeedRefusal.TheVariants.{NoMemory};
+
+    ghost from_gives = { λ _ e. e ≡ NoMemory };
+
+    fn from(_fault: AllocFailed<T>) -> FeedRefusal {
+        FeedRefusal::NoMemory
+    }
+}

@@ -1,0 +1,17 @@
+//! Byte sources and sinks that count their faults, in memory and of the runtime, and the lines of a source.
+#![tactic(auto)]
+
+mod ends;
+mod lines;
+mod memory;
+mod memory_line;
+mod standard;
+
+pub use ends::{Duplex, Failed, Sink, Source, put_all};
+pub use lines::{Line, LineFault, Lines};
+pub use memory::{MemorySink, MemorySource};
+pub use memory_line::MemoryLine;
+pub use standard::{StdSink, StdSource};
+
+#[cfg(test)]
+mod tests;

@@ -1,0 +1,17 @@
+pub mod Commits
+pub mod Editions
+pub mod NumberLemmas
+pub mod Published
+pub mod Renders
+pub mod Rising
+pub mod RowBytes
+pub mod RowCountLemmas
+pub mod RowPageLemmas
+pub mod RowReads
+pub mod SameWords
+pub mod ScriptSoFar
+pub mod Settling
+pub mod SiteSoFar
+pub mod Whole
+pub mod WholeRuns
+pub mod WordLemmas

@@ -1,0 +1,118 @@
+-- The lines of a site text so far.
+use Rattle.std.proofs.Common.{◌≡◌, ℕ, ◌+◌, Bool, true, false, refl, sym, ap, ◌∙◌, subst, [], ◌++◌, append_assoc, append-nil, arith}
+use Rattle.std.specs.Prelude.{None, Some, Option, Result, Ok, Err, IfErr, IsErrAnd, if◌then◌else◌}
+use Rattle.dup_io.specs.declared.lines.LineFault.{LineFault}
+use Rattle.dup_io.specs.declared.lines.LineFault.TheVariants as fault
+use Rattle.dup_main.specs.LineStops.{stop_of}
+use Rattle.dup_io.specs.Reading.{Reading, Whole, Next, LongLine, LongInput, GivesLine, IsReading}
+use Rattle.dup_names.specs.Words.{Word}
+use Rattle.dup_main.specs.declared.stop.Stop.{Stop}
+use Rattle.dup_main.specs.declared.stop.Stop.TheVariants as stops
+use Rattle.dup_main.specs.Session.{line}
+use Rattle.dup_main.specs.Stops.{IsSiteText, ReadsSite, CountsSite, StopsInSite}
+use Rattle.dup_main.specs.Transcript.{is_end, site_text, site_lines, script, site_is_read, ending, too_long}
+
+-- of a reading, this text was read, and the rest is left; from a number of lines to a number of lines
+pub record IsSoFar (all rest : Reading) (text : Word) (before now : ℕ) : Type 0 where
+  pub says : site_text all ≡ text ++ site_text rest
+  pub behind : script all ≡ script rest
+  pub whole : site_is_read all ≡ site_is_read rest
+  pub lines : before + site_lines all ≡ now + site_lines rest
+  pub ends : ending all ≡ ending rest
+  pub long : too_long all ≡ too_long rest
+
+abbrev pub SoFar : Option Reading → Option Reading → Word → ℕ → ℕ → Type 0
+SoFar None rest text before now = Unit {0}
+SoFar (Some all) None text before now = ⊥
+SoFar (Some all) (Some rest) text before now = IsSoFar all rest text before now
+
+pub begins : (r : Option Reading) (text : Word) (n : ℕ) → text ≡ [] → SoFar r r text n n
+begins None text n none = tt
+begins (Some r) text n none = subst (λ (t : Word). IsSoFar r r t n n) (sym none) (record { says = refl; behind = refl; whole = refl; lines = refl; ends = refl; long = refl })
+
+goes_on : (all rest : Reading) (text l : Word) (before now : ℕ) → IsSoFar all (Next l rest) text before now → is_end l ≡ false → IsSoFar all rest (text ++ line l) before (now + 1)
+goes_on all rest text l before now p e = record {
+  says = p.says ∙ ap (λ (b : Bool). text ++ (if b then [] else (line l ++ site_text rest))) e ∙ sym (append_assoc text (line l) (site_text rest));
+  behind = p.behind ∙ ap (λ (b : Bool). if b then rest else script rest) e;
+  whole = p.whole ∙ ap (λ (b : Bool). if b then true else site_is_read rest) e;
+  lines = let h : now + (if is_end l then 1 else (1 + site_lines rest)) ≡ now + (1 + site_lines rest) = ap (λ (b : Bool). now + (if b then 1 else (1 + site_lines rest))) e in omega (arith, p.lines, h);
+  ends = p.ends;
+  long = p.long;
+}
+
+pub more : (a r s : Option Reading) (text l next : Word) (before now then_ : ℕ) → SoFar a r text before now → GivesLine r s l → is_end l ≡ false
+    → next ≡ text ++ line l → then_ ≡ now + 1 → SoFar a s next before then_
+more None r s text l next before now then_ p gives e t n = tt
+more (Some all) None s text l next before now then_ p gives e t n = absurd p
+more (Some all) (Some r) None text l next before now then_ p gives e t n = absurd gives
+more (Some all) (Some r) (Some rest) text l next before now then_ p gives e t n =
+    rw (t, n) (goes_on all rest text l before now (subst (λ (x : Reading). IsSoFar all x text before now) gives p) e)
+
+ends_here : (all rest : Reading) (text l : Word) (before now : ℕ) → IsSoFar all (Next l rest) text before now → is_end l ≡ true → IsSiteText all rest text
+ends_here all rest text l before now p e = record {
+  whole = p.whole ∙ ap (λ (b : Bool). if b then true else site_is_read rest) e;
+  says = p.says ∙ ap (λ (b : Bool). text ++ (if b then [] else (line l ++ site_text rest))) e ∙ append-nil text;
+  behind = p.behind ∙ ap (λ (b : Bool). if b then rest else script rest) e;
+  ends = p.ends;
+}
+
+pub at_end_line : (a r s : Option Reading) (text l : Word) (before now : ℕ) → SoFar a r text before now → GivesLine r s l → is_end l ≡ true → ReadsSite a s text
+at_end_line None r s text l before now p gives e = tt
+at_end_line (Some all) None s text l before now p gives e = absurd p
+at_end_line (Some all) (Some r) None text l before now p gives e = absurd gives
+at_end_line (Some all) (Some r) (Some rest) text l before now p gives e =
+    ends_here all rest text l before now (subst (λ (x : Reading). IsSoFar all x text before now) gives p) e
+
+pub counted : (a r s : Option Reading) (text l : Word) (before now behind : ℕ) → SoFar a r text before now → GivesLine r s l → is_end l ≡ true → behind ≡ now + 1 → CountsSite a before behind
+counted None r s text l before now behind p gives e n = tt
+counted (Some all) None s text l before now behind p gives e n = absurd p
+counted (Some all) (Some r) None text l before now behind p gives e n = absurd gives
+counted (Some all) (Some r) (Some rest) text l before now behind p gives e n =
+    let q : IsSoFar all (Next l rest) text before now = subst (λ (x : Reading). IsSoFar all x text before now) gives p in
+    let h : now + (if is_end l then 1 else (1 + site_lines rest)) ≡ now + 1 = ap (λ (b : Bool). now + (if b then 1 else (1 + site_lines rest))) e in
+    omega (arith, q.lines, h)
+
+pub at_input_end : (a r : Option Reading) (text : Word) (before now : ℕ) → SoFar a r text before now → IsReading r Whole → ReadsSite a (Some Whole) text
+at_input_end None r text before now p is = tt
+at_input_end (Some all) None text before now p is = absurd p
+at_input_end (Some all) (Some r) text before now p is =
+    let q : IsSoFar all Whole text before now = subst (λ (x : Reading). IsSoFar all x text before now) is p in
+    record { whole = q.whole; says = q.says ∙ append-nil text; behind = q.behind; ends = q.ends }
+
+-- the stop that is due
+abbrev pub IsDue : Stop → Option Reading → Type 0
+IsDue (stops.LineTooLong n) r = IsReading r (LongLine n)
+IsDue stops.InputTooLong r = IsReading r LongInput
+IsDue stops.WriteFault r = ⊥
+IsDue stops.BadSite r = ⊥
+IsDue _ r = Unit {0}
+
+pub stopped : (stop : Stop) (a r : Option Reading) (text : Word) (before now : ℕ) → SoFar a r text before now → IsDue stop r → StopsInSite stop a
+stopped (stops.LineTooLong n) None r text before now p due = tt
+stopped (stops.LineTooLong n) (Some all) None text before now p due = absurd p
+stopped (stops.LineTooLong n) (Some all) (Some r) text before now p due =
+    let q : IsSoFar all (LongLine n) text before now = subst (λ (x : Reading). IsSoFar all x text before now) due p in
+    (λ cut. (q.whole, q.ends), q.long)
+stopped stops.InputTooLong None r text before now p due = tt
+stopped stops.InputTooLong (Some all) None text before now p due = absurd p
+stopped stops.InputTooLong (Some all) (Some r) text before now p due =
+    let q : IsSoFar all LongInput text before now = subst (λ (x : Reading). IsSoFar all x text before now) due p in
+    (λ cut. (q.whole, q.ends), q.long)
+stopped stops.WriteFault a r text before now p due = absurd due
+stopped stops.BadSite a r text before now p due = absurd due
+stopped stops.ReadFault None r text before now p due = tt
+stopped stops.ReadFault (Some all) r text before now p due = (λ cut. absurd (cc), tt)
+stopped stops.NoMemory None r text before now p due = tt
+stopped stops.NoMemory (Some all) r text before now p due = (λ cut. absurd (cc), tt)
+
+pub due_of : (f : LineFault) (r : Option Reading) → ((n : ℕ) → f ≡ fault.LineTooLong n → IsReading r (LongLine n)) → (f ≡ fault.InputTooLong → IsReading r LongInput) → IsDue (stop_of f) r
+due_of fault.ReadFault r line input = tt
+due_of (fault.LineTooLong n) r line input = line n refl
+due_of fault.InputTooLong r line input = input refl
+due_of fault.NoMemory r line input = tt
+
+pub stops_in_site : {X : Type 0} (result : Result X Stop) (f : LineFault) (a r : Option Reading) (text : Word) (before now : ℕ) → SoFar a r text before now → IsDue (stop_of f) r
+    → IsErrAnd result (λ stop. stop ≡ stop_of f) → IfErr result (λ stop. StopsInSite stop a)
+stops_in_site (Ok x) f a r text before now p due is = tt
+stops_in_site (Err stop) f a r text before now p due is =
+    subst (λ (s : Stop). StopsInSite s a) (sym is) (stopped (stop_of f) a r text before now p due)

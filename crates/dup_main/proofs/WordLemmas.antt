@@ -1,0 +1,29 @@
+-- The words of a line, by their number.
+use Rattle.std.proofs.Common.{◌≡◌, ◌≢◌, ℕ, List, [], ◌∷◌, refl, length, get_or, arith}
+use Rattle.std.specs.Borrow.{Bor}
+use Rattle.dup_main.specs.declared.command.Command.TheVariants.{NotBuilt}
+use Rattle.dup_main.specs.Commands.{by_words, one_word, four_words, seen}
+
+pub at_one : (ws : List (Bor (List ℕ))) (d : Bor (List ℕ)) → length ws ≡ 1 → one_word (get_or ws 0 d).now ≡ by_words (seen ws)
+at_one [] d size = absurd (omega arith)
+at_one (x ∷ []) d size = refl
+at_one (x ∷ y ∷ ws) d size = absurd (omega arith)
+
+pub at_four : (ws : List (Bor (List ℕ))) (d : Bor (List ℕ)) → length ws ≡ 4
+    → four_words (get_or ws 0 d).now (get_or ws 1 d).now (get_or ws 2 d).now (get_or ws 3 d).now ≡ by_words (seen ws)
+at_four [] d size = absurd (omega arith)
+at_four (x ∷ []) d size = absurd (omega arith)
+at_four (x ∷ y ∷ []) d size = absurd (omega arith)
+at_four (x ∷ y ∷ z ∷ []) d size = absurd (omega arith)
+at_four (x ∷ y ∷ z ∷ w ∷ []) d size = refl
+at_four (x ∷ y ∷ z ∷ w ∷ v ∷ ws) d size = absurd (omega arith)
+
+pub at_other : (ws : List (Bor (List ℕ))) → length ws ≢ 1 → length ws ≢ 4 → NotBuilt ≡ by_words (seen ws)
+at_other [] one four = refl
+at_other (a ∷ []) one four = absurd (one (omega arith))
+at_other (a ∷ b ∷ []) one four = refl
+at_other (a ∷ b ∷ c ∷ []) one four = refl
+at_other (a ∷ b ∷ c ∷ d ∷ []) one four = absurd (four (omega arith))
+at_other (a ∷ b ∷ c ∷ d ∷ e ∷ ws) one four = refl
+
+pub ruleset by_number = (at_one, at_four, at_other)

@@ -1,0 +1,12 @@
+use Rattle.std.proofs.Common.{◌≡◌, ◌++◌, ◌∙◌, append_assoc, codes, string_bytes}
+use Rattle.std.specs.Prelude.{String}
+use Rattle.std.specs.declared.alloc.Global.{Global}
+use Rattle.std.specs.Fmt.{decimal}
+use Rattle.std.proofs.lemmas.Result.{IfOk-weaker}
+use Rattle.dup_main.specs.Session.{line}
+use Rattle.dup_main.proofs.texts.ahead_text.Goals as goal
+
+pub returns : goal.returns
+returns c =
+    let P : String Global → Type 0 = λ text. string_bytes text ≡ line (codes "ahead " ++ decimal c.args.pass ++ codes " " ++ decimal c.args.edition) in
+    IfOk-weaker _ _ P (λ text is. is ∙ simp append_assoc) c.format.ensures.ok

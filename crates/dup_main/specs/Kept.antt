@@ -1,0 +1,66 @@
+-- What the program keeps of a session.
+use Rattle.std.specs.Prelude.{◌≡◌, ℕ, ◌≤◌, true, [], ◌∷◌, Option, Some, None, length, Bool, false, ◌&&◌, bytes_eq}
+use Rattle.dup_model.specs.Touched.{same_obj}
+use Rattle.std.specs.Option.{option_map}
+use Rattle.std.specs.FinMap as fin
+use Rattle.std.specs.BTreeMap as tree
+use Rattle.dup_names.specs.Order.{text_cmp}
+use Rattle.dup_names.specs.Words.{Word, Path}
+use Rattle.dup_names.specs.declared.object.Obj.{Obj}
+use Rattle.dup_names.specs.declared.value.Look.{Look}
+use Rattle.dup_model.specs.Versions.{content}
+use Rattle.dup_model.specs.Editions.{Page}
+use Rattle.dup_model.specs.Content.{IsOf, table}
+use Rattle.dup_main.specs.FirstForm.{is_first_form}
+use Rattle.dup_main.specs.RowCounts.{IsSimple}
+use Rattle.dup_main.specs.Session.{Session, Published, target_content, after_command, answer}
+use Rattle.dup_main.specs.declared.command.Command.{Command}
+use Rattle.dup_main.specs.declared.edition.Edition.{Edition as KeptEdition}
+use Rattle.dup_main.specs.declared.edition.Rendered.{Rendered}
+use Rattle.dup_main.specs.declared.session.Session.{Session as Kept}
+
+-- the look of a page that embeds nothing and has no links
+abbrev pub plain_look : Obj → Word → Look
+plain_look obj bytes = record { obj = obj; bytes = bytes; uses = (obj, bytes) ∷ []; links = [] }
+
+abbrev pub page_of : Path → Rendered → Page
+page_of path r = record { path = path; version = r.version; look = plain_look r.obj r.bytes.items }
+
+-- two pages of one path have the same look
+abbrev pub is_same : Rendered → Rendered → Bool
+is_same old new = same_obj old.obj new.obj && bytes_eq old.bytes.items new.bytes.items
+
+abbrev pub has_same : Option Rendered → Rendered → Bool
+has_same None new = false
+has_same (Some old) new = is_same old new
+
+-- the program keeps this edition under this number
+pub record KeepsPages (p : Published) (r : KeptEdition) : Type 0 where
+  pub number : r.number ≡ p.number
+  pub pages : (q : Path) → fin.get p.edition q ≡ option_map (page_of q) (tree.get text_cmp r.pages q)
+
+-- a version that was made
+abbrev pub IsMade : Option ℕ → ℕ → Type 0
+IsMade None versions = Unit {0}
+IsMade (Some v) versions = v ≤ versions
+
+-- the program keeps this session
+pub record Keeps (s : Session) (r : Kept) : Type 0 where
+  pub content : r.content ≡ content r.site.value s.commits
+  pub version : r.version ≡ length s.commits
+  pub made : IsMade s.target (length s.commits)
+  pub target : r.settled ≡ target_content r.site.value s
+  pub edition : KeepsPages (record { number = s.number; edition = s.edition }) r.edition
+  pub nodes : r.nodes.items ≡ s.nodes
+
+-- what a command does, and the text that it is answered
+abbrev pub Acts : Kept → Kept → ℕ → Command → Word → Type 0
+Acts old new number command text =
+    (s : Session) → Keeps s old → Keeps (after_command old.site.value s command) new × (text ≡ answer old.site.value s number command)
+
+-- what holds whatever was done: the site is of the first form, the contents are its own, and each commit made one row at most
+pub record IsReady (r : Kept) : Type 0 where
+  pub form : is_first_form r.site.value ≡ true
+  pub of_site : IsOf r.site.value r.content
+  pub simple : IsSimple r.settled
+  pub rows : length (table r.content 0) ≤ r.version

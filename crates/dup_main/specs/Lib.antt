@@ -1,0 +1,12 @@
+pub mod Commands
+pub mod FirstForm
+pub mod Kept
+pub mod LineStops
+pub mod Numbers
+pub mod Session
+pub mod Stops
+pub mod Transcript
+pub mod Rendering
+pub mod RowPages
+pub mod RowCounts
+pub mod Headline

@@ -1,0 +1,38 @@
+-- The pages of a site of the first form: one for each row.
+use Rattle.std.specs.Prelude.{◌≡◌, true, List, [], ◌∷◌, ◌++◌, map, Some}
+use Rattle.dup_names.specs.Words.{Word, Path}
+use Rattle.dup_names.specs.declared.object.Obj.{Obj}
+use Rattle.dup_names.specs.declared.value.Look.{Look}
+use Rattle.dup_template.specs.declared.site.Parts.{Parts}
+use Rattle.dup_template.specs.declared.site.PageRule.{PageRule}
+use Rattle.dup_template.specs.declared.site.PageRule.TheVariants.{Family}
+use Rattle.dup_model.specs.Content.{Content, IsOf, keys}
+use Rattle.dup_model.specs.Pages.{live}
+use Rattle.dup_model.specs.Tables.{TablesRise}
+use Rattle.dup_main.specs.FirstForm.{is_first_form}
+use Rattle.dup_main.specs.Kept.{plain_look}
+use Rattle.dup_main.specs.Rendering.{row_bytes}
+use Rattle.dup_main.specs.Session.{whole_site}
+
+-- the object of a row's page
+abbrev pub row_object : Word → Obj
+row_object key = record { template = 0; key = Some key }
+
+abbrev pub prefix_in : List PageRule → Word
+prefix_in (Family prefix template ∷ rules) = prefix
+prefix_in _ = []
+
+abbrev pub row_path : Parts → Word → Path
+row_path site key = prefix_in site.pages ++ 47 ∷ key
+
+-- a row's page: its path and its look
+abbrev pub row_page : Parts → Content → Word → Path × Look
+row_page site c key = (row_path site key, plain_look (row_object key) (row_bytes c key))
+
+-- what a content of such a site has: a page for each row, which embeds nothing and links to nothing
+pub record HasRowPages (site : Parts) (c : Content) : Type 0 where
+  pub pages : whole_site c ≡ map (row_page site c) (keys c 0)
+  pub objects : live c ≡ map row_object (keys c 0)
+
+abbrev pub RowsHavePages : Type 0
+RowsHavePages = (site : Parts) (c : Content) → is_first_form site ≡ true → IsOf site c → TablesRise c → HasRowPages site c

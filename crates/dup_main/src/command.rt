@@ -1,0 +1,181 @@
+ghost use Rattle.std.specs.Prelude.{◌≡◌, IfOk, IsTrue, length};
+ghost use Rattle.std.specs.List.{list_all};
+ghost use Rattle.std.specs.Option.{option_copied};
+ghost use Rattle.dup_feed.specs.Feed.{feed_says};
+ghost use Rattle.dup_site.specs.Words.{is_space};
+ghost use Rattle.dup_template.specs.Good.{behind};
+ghost use Rattle.dup_names.specs.Words.{same};
+ghost use Rattle.dup_main.specs.Commands.{by_message, by_start, by_words, command_of, commit_command, four_words, get_command, if_more, is_mode, is_one_put, is_put, message_of, node_command, one_word, seen};
+ghost use Rattle.dup_main.specs.Commands.{HasOneChange};
+ghost use Rattle.dup_main.specs.Numbers.{number_of};
+
+use crate::number::read_number;
+use dup_feed::{FeedRefusal, read_commit};
+use dup_model::Edit;
+use dup_names::{NoMemory, Path};
+use dup_records::{Change, Commit};
+use dup_site::{trimmed, words_of};
+use std::alloc::Global;
+
+/// What a line of a script asks.
+#[derive(Drop)]
+pub(crate) enum Command {
+    Blank,
+    Commit(Commit),
+    Settle,
+    Node(u16),
+    Get { node: u16, pass: u64, path: Path },
+    NotBuilt,
+}
+
+fn is_word(word: &[u8], wanted: &[u8]) -> bool
+    ensures { result ≡ same word.now wanted.now }
+{
+    word == wanted
+}
+
+fn is_mode(word: &[u8]) -> bool
+    ensures { result ≡ is_mode word.now }
+{
+    is_word(word, b"update") || is_word(word, b"invalidate")
+}
+
+fn node_command(node: &[u8], capacity: &[u8], mode: &[u8]) -> Command
+    ensures command { result ≡ node_command (number_of node.now) (number_of capacity.now) mode.now }
+    ensures one { HasOneChange result }
+{
+    match (read_number(node), read_number(capacity)) {
+        (Some(node @ 1..=16), Some(1..=65_536)) if is_mode(mode) => Command::Node(node as u16),
+        _ => Command::NotBuilt,
+    }
+}
+
+fn get_command(node: &[u8], pass: &[u8], path: &[u8]) -> Command
+    ensures command { result ≡ get_command (number_of node.now) (number_of pass.now) path.now }
+    ensures one { HasOneChange result }
+{
+    match (read_number(node), read_number(pass), Path::read(path)) {
+        (Some(node @ 1..=16), Some(pass), Some(path)) => Command::Get {
+            node: node as u16,
+            pass,
+            path,
+        },
+        _ => Command::NotBuilt,
+    }
+}
+
+fn one_word(word: &[u8]) -> Command
+    ensures command { result ≡ one_word word.now }
+    ensures one { HasOneChange result }
+{
+    if is_word(word, b"settle") {
+        Command::Settle
+    } else {
+        Command::NotBuilt
+    }
+}
+
+fn four_words(word: &[u8], a: &[u8], b: &[u8], c: &[u8]) -> Command
+    ensures command { result ≡ four_words word.now a.now b.now c.now }
+    ensures one { HasOneChange result }
+{
+    if is_word(word, b"node") {
+        node_command(a, b, c)
+    } else if is_word(word, b"get") {
+        get_command(a, b, c)
+    } else {
+        Command::NotBuilt
+    }
+}
+
+#[tactic(auto, using(crate::proofs::WordLemmas::by_number))]
+fn by_words(words: &[&[u8]]) -> Command
+    ensures command { result ≡ by_words (seen words.now) }
+    ensures one { HasOneChange result }
+{
+    match words.len() {
+        1 => one_word(words[0]),
+        4 => four_words(words[0], words[1], words[2], words[3]),
+        _ => Command::NotBuilt,
+    }
+}
+
+fn is_put(change: &Change) -> bool
+    ensures { result ≡ is_put change.now }
+{
+    matches!(
+        change.edit(),
+        Edit::Put {
+            kind: _,
+            key: _,
+            fields: _
+        }
+    )
+}
+
+/// Whether a commit is one put.
+fn is_one_put(commit: &Commit) -> bool
+    ensures value { result ≡ is_one_put commit.now }
+    ensures one { IsTrue result → length commit.now ≡ 1 }
+{
+    match commit.changes() {
+        [change] => is_put(change),
+        _ => false,
+    }
+}
+
+fn commit_command(alloc: Global, message: &[u8]) -> Result<Command, NoMemory>
+    ensures command { IfOk result (λ command. command ≡ commit_command (feed_says message.now)) }
+    ensures one { IfOk result HasOneChange }
+{
+    match read_commit(alloc, message) {
+        Ok(commit) if is_one_put(&commit) => Ok(Command::Commit(commit)),
+        Err(FeedRefusal::NoMemory) => Err(NoMemory),
+        _ => Ok(Command::NotBuilt),
+    }
+}
+
+fn is_space(byte: u8) -> bool
+    ensures { result ≡ is_space byte }
+{
+    byte == b' '
+}
+
+fn are_spaces(bytes: &[u8]) -> bool
+    ensures { result ≡ list_all is_space bytes.now }
+{
+    bytes.iter().all(|byte| is_space(*byte))
+}
+
+fn message_of(text: &[u8]) -> Option<&[u8]>
+    ensures { option_copied result ≡ message_of text.now }
+{
+    match text.strip_prefix(b"commit ") {
+        Some(rest) if !are_spaces(rest) => Some(rest),
+        _ => None,
+    }
+}
+
+fn by_start(alloc: Global, text: &[u8]) -> Result<Command, NoMemory>
+    ensures command { IfOk result (λ command. command ≡ by_start text.now) }
+    ensures one { IfOk result HasOneChange }
+{
+    match text {
+        [] | [b'#', ..] => Ok(Command::Blank),
+        [_, ..] => match message_of(text) {
+            Some(message) => commit_command(alloc, message),
+            None => {
+                let words = words_of(alloc, text)?;
+                Ok(by_words(&words))
+            }
+        },
+    }
+}
+
+/// The command of a line.
+pub(crate) fn read_command(alloc: Global, text: &[u8]) -> Result<Command, NoMemory>
+    ensures command { IfOk result (λ command. command ≡ command_of text.now) }
+    ensures one { IfOk result HasOneChange }
+{
+    by_start(alloc, trimmed(text))
+}

@@ -1,0 +1,68 @@
+ghost use Rattle.std.specs.Prelude.{◌≡◌, ◌≤◌, not, true, length};
+ghost use Rattle.std.specs.List.{list_all, list_any};
+ghost use Rattle.dup_names.specs.Words.{same};
+ghost use Rattle.dup_model.specs.Content.{body_at, table};
+ghost use Rattle.dup_main.specs.FirstForm.{is_simple};
+ghost use Rattle.dup_main.specs.RowCounts.{IsSimple, is_read_anew, is_renewed, renewed_count};
+
+use crate::render::{body_of, field_place, fields_of};
+use dup_names::Key;
+use dup_records::Content;
+use dup_template::Statement;
+
+fn differ(a: &[u8], b: &[u8]) -> bool
+    ensures { result ≡ not (same a.now b.now) }
+{
+    a != b
+}
+
+#[tactic(auto, using(crate::proofs::RowReads::simple_reads))]
+fn is_read_anew(a: &Content, b: &Content, key: &Key, statement: &Statement) -> bool
+    requires { is_simple statement.now ≡ true }
+    ensures { result ≡ is_read_anew a.now b.now key.now statement.now }
+{
+    match statement {
+        Statement::Field(name) => {
+            let field = field_place(fields_of(a), name) as u16;
+            differ(a.text(0, key, field), b.text(0, key, field))
+        }
+        _ => false,
+    }
+}
+
+fn is_touched(a: &Content, b: &Content, key: &Key) -> bool
+    requires { list_all is_simple (body_at a.now 0) ≡ true }
+    ensures { result ≡ list_any (is_read_anew a.now b.now key.now) (body_at a.now 0) }
+{
+    for statement in body_of(a) {
+        if is_read_anew(a, b, key, statement) {
+            return true;
+        }
+    }
+    false
+}
+
+fn is_renewed(a: &Option<Content>, b: &Content, key: &Key) -> bool
+    requires { IsSimple a.now }
+    ensures { result ≡ is_renewed a.now b.now key.now }
+{
+    match a {
+        None => true,
+        Some(a) => !a.has_row(0, key) || is_touched(a, b, key),
+    }
+}
+
+/// How many rows are new, or have a field that differs and that the template reads. It looks at each row once.
+pub(crate) fn renewed_count(a: &Option<Content>, b: &Content) -> usize
+    requires { IsSimple a.now }
+    ensures value { result ≡ renewed_count a.now b.now }
+    ensures within { result ≤ length (table b.now 0) }
+{
+    let mut count = 0;
+    for row in b.rows(0) {
+        if is_renewed(a, b, &row.0) {
+            count += 1;
+        }
+    }
+    count
+}

@@ -1,0 +1,116 @@
+ghost use Rattle.std.specs.Prelude.{◌≡◌, ◌≢◌, ◌⊎◌, ◌↔◌, ◌++◌, ◌∷◌, [], IsTrue, IfOk, codes, string_bytes, true};
+ghost use Rattle.std.specs.Fmt.{decimal};
+ghost use Rattle.std.specs.Io.KnownBytes.{Appends, IsAtEnd};
+ghost use Rattle.dup_io.specs.Causes.{Rose};
+ghost use Rattle.dup_main.specs.Headline.{EditionsAreRendered, FoundPagesAreRendered, SettledEditionsAreWhole};
+ghost use Rattle.dup_main.specs.Stops.{stop_status, stop_text, writes};
+ghost use Rattle.dup_main.specs.Transcript.{IsPlay, WritesTranscript, too_long_line, usage};
+
+use crate::laws::headline;
+use crate::play::play;
+use crate::stop::Stop;
+use dup_io::{Sink, Source, put_all};
+use std::alloc::{AllocError, Global};
+use std::marker::Sync;
+use std::thread::Threads;
+
+const USAGE: &[u8] =
+    b"usage: dup_top play | check | render | games N | serve PORT NODES CAPACITY MODE WORKERS\n";
+
+fn too_long_line(alloc: Global, number: u64) -> Result<String, AllocError>
+    ensures { IfOk result (λ text. string_bytes text ≡ too_long_line number) }
+{
+    format!(in alloc; "too long: line {number}\n")
+}
+
+/// Writes a last text and gives the status, or 4 where the sink fails.
+fn end<K: Sink>(out: &mut K, status: u8, text: &[u8]) -> u8
+    requires { status ≢ 4 }
+    ensures done { result ≢ 4 → (result ≡ status) × (K.faults out.new ≡ K.faults out.old) × Appends (K.written out.old) (K.written out.new) text.now }
+    ensures fault { result ≡ 4 → Rose (K.faults out.old) (K.faults out.new) }
+    ensures either { (result ≡ 4) ⊎ (result ≡ status) }
+{
+    match put_all(out, text) {
+        Ok(()) => status,
+        Err(_) => 4,
+    }
+}
+
+/// Writes the line that is due at a stop, and gives the status.
+fn finish<K: Sink>(alloc: Global, out: &mut K, stop: Stop) -> u8
+    ensures read { result ≡ 3 → stop ≡ Stop.ReadFault }
+    ensures memory { result ≡ 6 → stop ≢ Stop.ReadFault × stop ≢ Stop.WriteFault }
+    ensures written { (result ≡ 5) ⊎ (result ≡ 7) → (writes stop ≡ true) × (result ≡ stop_status stop) × Appends (K.written out.old) (K.written out.new) (stop_text stop) }
+    ensures fault { result ≡ 4 → (stop ≡ Stop.WriteFault) ⊎ Rose (K.faults out.old) (K.faults out.new) }
+    ensures write { stop ≡ Stop.WriteFault → (result ≡ 4) × (K.faults out.new ≡ K.faults out.old) }
+    ensures no_fault { result ≢ 4 → K.faults out.new ≡ K.faults out.old }
+    ensures others { (result ≡ 3) ⊎ (result ≡ 4) ⊎ (result ≡ 5) ⊎ (result ≡ 6) ⊎ (result ≡ 7) }
+{
+    match stop {
+        Stop::ReadFault => end(out, 3, b"read fault\n"),
+        Stop::WriteFault => 4,
+        Stop::BadSite => end(out, 5, b"bad site: not built\n"),
+        Stop::NoMemory => 6,
+        Stop::LineTooLong(number) => match too_long_line(alloc, number) {
+            Ok(text) => end(out, 7, text.as_bytes()),
+            Err(_) => 6,
+        },
+        Stop::InputTooLong => end(out, 7, b"too long: input\n"),
+    }
+}
+
+/// Whether the words are a command line that is known.
+fn is_play(words: &[String]) -> bool
+    ensures { IsTrue result ↔ IsPlay words.now }
+{
+    match words {
+        [word] => word.as_str() == "play",
+        _ => false,
+    }
+}
+
+/// Does what the words say, and gives the status. The words are those after the program's own name.
+///
+/// - 0: `play` read its input to the end and wrote its transcript.
+/// - 2: the words are no command line that is known; nothing was read, and the usage line was written.
+/// - 3: the source failed; 4: the sink failed, whatever else was found.
+/// - 5: the site text was read whole, and is no good site of the form that can be played.
+/// - 6: want of memory.
+/// - 7: a line of over 262,144 bytes was read, or over 2^30 bytes of input.
+pub fn desk_main<R: Threads + Sync, S: Source, K: Sink>(
+    _rt: &R,
+    alloc: Global,
+    words: &[String],
+    input: &mut S,
+    out: &mut K,
+) -> u8
+    // Wrong words: nothing is read, and the usage line is written.
+    ensures bad_words { ¬ (IsPlay words.now) → (result ≡ 2) ⊎ (result ≡ 4) }
+    ensures nothing_read { ¬ (IsPlay words.now) → input.new ≡ input.old }
+    ensures usage { result ≡ 2 → ¬ (IsPlay words.now) × Appends (K.written out.old) (K.written out.new) usage }
+    // What is written is the transcript of the bytes read, and the status is its own.
+    ensures whole { result ≡ 0 → IsPlay words.now × WritesTranscript (S.left input.old) (K.written out.old) (K.written out.new) 0 }
+    ensures at_end { result ≡ 0 → IsAtEnd (S.left input.new) }
+    ensures bad_site { result ≡ 5 → IsPlay words.now × WritesTranscript (S.left input.old) (K.written out.old) (K.written out.new) 5 }
+    ensures too_long { result ≡ 7 → IsPlay words.now × WritesTranscript (S.left input.old) (K.written out.old) (K.written out.new) 7 }
+    // A fault is answered only where it happened, and none is passed over.
+    ensures read_fault { result ≡ 3 → IsPlay words.now × Rose (S.faults input.old) (S.faults input.new) }
+    ensures write_fault { result ≡ 4 → Rose (K.faults out.old) (K.faults out.new) }
+    ensures no_read_fault { result ≢ 3 → result ≢ 4 → S.faults input.new ≡ S.faults input.old }
+    ensures no_write_fault { result ≢ 4 → K.faults out.new ≡ K.faults out.old }
+    ensures memory { result ≡ 6 → IsPlay words.now }
+    // Over every script: each page of an edition, and each page that is found, is rendered over one version.
+    ensures editions { EditionsAreRendered }
+    ensures found { FoundPagesAreRendered }
+    ensures settled { SettledEditionsAreWhole }
+    ensures others { (result ≡ 0) ⊎ (result ≡ 2) ⊎ (result ≡ 3) ⊎ (result ≡ 4) ⊎ (result ≡ 5) ⊎ (result ≡ 6) ⊎ (result ≡ 7) }
+{
+    headline();
+    if !is_play(words) {
+        return end(out, 2, USAGE);
+    }
+    match play(alloc, input, out) {
+        Ok(()) => 0,
+        Err(stop) => finish(alloc, out, stop),
+    }
+}

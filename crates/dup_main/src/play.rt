@@ -1,0 +1,36 @@
+ghost use Rattle.std.specs.Prelude.{◌≡◌, ◌≢◌, OnOk, IfErr, IsErrOf, Err};
+ghost use Rattle.std.specs.Io.KnownBytes.{IsAtEnd};
+ghost use Rattle.dup_io.specs.Causes.{Rose};
+ghost use Rattle.dup_main.specs.Stops.{StopsAt};
+ghost use Rattle.dup_main.specs.Transcript.{WritesTranscript};
+
+use crate::form::first_site;
+use crate::script::play_script;
+use crate::site_part::read_site_text;
+use crate::stop::Stop;
+use dup_io::{Lines, Sink, Source, put_all};
+use std::alloc::Global;
+
+/// Reads a site, says that it is good, and plays the script behind it.
+pub(crate) fn play<S: Source, K: Sink>(
+    alloc: Global,
+    input: &mut S,
+    out: &mut K,
+) -> Result<(), Stop>
+    ensures written { OnOk result (WritesTranscript (S.left input.old) (K.written out.old) (K.written out.new) 0) }
+    ensures at_end { OnOk result (IsAtEnd (S.left input.new)) }
+    ensures stopped { IfErr result (λ stop. StopsAt stop (S.left input.old) (K.written out.old) (K.written out.new)) }
+    ensures read_fault { IsErrOf result Stop.ReadFault → Rose (S.faults input.old) (S.faults input.new) }
+    ensures no_read_fault { result ≢ Err Stop.ReadFault → S.faults input.new ≡ S.faults input.old }
+    ensures write_fault { IsErrOf result Stop.WriteFault → Rose (K.faults out.old) (K.faults out.new) }
+    ensures no_write_fault { result ≢ Err Stop.WriteFault → K.faults out.new ≡ K.faults out.old }
+{
+    let mut lines = Lines::new(input);
+    let read = read_site_text(alloc, &mut lines)?;
+    let site = first_site(alloc, &read.text)?;
+    put_all(out, b"site ok\n")?;
+    if !read.has_script {
+        return Ok(());
+    }
+    play_script(alloc, site, &mut lines, out)
+}

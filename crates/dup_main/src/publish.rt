@@ -1,0 +1,55 @@
+ghost use Rattle.std.specs.Prelude.{◌≡◌, ◌≤◌, ◌<◌, ◌+◌, ◌^◌, OnOk, map, length, true};
+ghost use Rattle.dup_model.specs.Content.{IsOf, keys, table};
+ghost use Rattle.dup_main.specs.FirstForm.{is_first_form};
+ghost use Rattle.dup_main.specs.Kept.{KeepsPages};
+ghost use Rattle.dup_main.specs.RowPages.{row_object, row_page, row_path};
+ghost use Rattle.dup_main.specs.Session.{Published, published};
+
+use crate::edition::{Edition, Rendered};
+use crate::render::render;
+use dup_names::{Key, NoMemory, Obj, Path};
+use dup_records::Content;
+use dup_template::{Site, path_of};
+use std::alloc::Global;
+
+fn row_object(key: &Key) -> Obj
+    ensures { result ≡ row_object key.now }
+{
+    Obj {
+        template: 0,
+        key: Some(*key),
+    }
+}
+
+#[tactic(auto, using(crate::proofs::RowPageLemmas::path_formed))]
+fn row_path(site: &Site, key: &Key) -> Path
+    requires { is_first_form site.now ≡ true }
+    ensures { result ≡ row_path site.now key.now }
+{
+    path_of(site, &row_object(key)).unwrap()
+}
+
+/// Renders the page of each row from scratch, and publishes those that the edition has otherwise or lacks.
+pub(crate) fn publish_rows(
+    alloc: Global,
+    site: &Site,
+    content: &Content,
+    version: u64,
+    edition: &mut Edition,
+) -> Result<(), NoMemory>
+    requires form { is_first_form site.now ≡ true }
+    requires content { IsOf site.now content.now }
+    requires number { edition.old.number + length (table content.now 0) < 2 ^ 63 }
+    ensures published { OnOk result ((p : Published) → KeepsPages p edition.old → KeepsPages (published version (map (row_page site.now content.now) (keys content.now 0)) p) edition.new) }
+    ensures grows { (edition.old.number ≤ edition.new.number) × (edition.new.number ≤ edition.old.number + length (table content.now 0)) }
+{
+    for row in content.rows(0) {
+        let page = Rendered {
+            obj: row_object(&row.0),
+            version,
+            bytes: render(alloc, content, &row.0)?,
+        };
+        edition.publish(row_path(site, &row.0), page)?;
+    }
+    Ok(())
+}

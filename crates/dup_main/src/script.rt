@@ -1,0 +1,42 @@
+ghost use Rattle.std.specs.Prelude.{◌≡◌, ◌≢◌, ◌+◌, OnOk, IfErr, IsErrOf, Err, None, true};
+ghost use Rattle.std.specs.Io.KnownBytes.{IsAtEnd};
+ghost use Rattle.dup_io.specs.Causes.{Rose};
+ghost use Rattle.dup_io.specs.Lines.{to_read, source_of, reference_of, number_of, fault_of};
+ghost use Rattle.dup_main.specs.FirstForm.{is_first_form};
+ghost use Rattle.dup_main.specs.Stops.{StopsInScript, WritesScript};
+
+use crate::command::read_command;
+use crate::session::Session;
+use crate::stop::Stop;
+use dup_io::{Lines, Sink, Source, put_all};
+use dup_template::Site;
+use std::alloc::Global;
+
+/// Does each line of the script, and writes its answer before it reads the next.
+pub(crate) fn play_script<'s, S: Source, K: Sink>(
+    alloc: Global,
+    site: Site,
+    lines: &mut Lines<'s, S>,
+    out: &mut K,
+) -> Result<(), Stop>
+    requires no_fault { fault_of lines.old ≡ None }
+    requires form { is_first_form site ≡ true }
+    ensures same_reference { reference_of lines.new ≡ reference_of lines.old }
+    ensures written { OnOk result (WritesScript site (number_of lines.old) (to_read S.left lines.old) (K.written out.old) (K.written out.new)) }
+    ensures at_end { OnOk result (IsAtEnd (S.left (source_of lines.new))) }
+    ensures stopped { IfErr result (λ stop. StopsInScript stop site (number_of lines.old) (to_read S.left lines.old) (K.written out.old) (K.written out.new)) }
+    ensures read_fault { IsErrOf result Stop.ReadFault → Rose (S.faults (source_of lines.old)) (S.faults (source_of lines.new)) }
+    ensures no_read_fault { result ≢ Err Stop.ReadFault → S.faults (source_of lines.new) ≡ S.faults (source_of lines.old) }
+    ensures write_fault { IsErrOf result Stop.WriteFault → Rose (K.faults out.old) (K.faults out.new) }
+    ensures no_write_fault { result ≢ Err Stop.WriteFault → K.faults out.new ≡ K.faults out.old }
+{
+    let mut session = Session::new(alloc, site)?;
+    'lines: loop {
+        let Some(line) = lines.next(alloc)? else {
+            return Ok(());
+        };
+        let command = read_command(alloc, &line.bytes)?;
+        let text = session.act(alloc, line.number, command)?;
+        put_all(out, &text)?;
+    }
+}

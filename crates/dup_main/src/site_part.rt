@@ -1,0 +1,70 @@
+ghost use Rattle.std.specs.Prelude.{◌≡◌, ◌≢◌, ◌++◌, ◌∷◌, [], ℕ, IfOk, IfErr, OnOk, IsErrOf, Err, None, Some, if◌then◌else◌};
+ghost use Rattle.std.specs.Bool.{OnFalse, OnTrue};
+ghost use Rattle.dup_io.specs.Reading.{Whole};
+ghost use Rattle.std.specs.Io.KnownBytes.{IsAtEnd};
+ghost use Rattle.dup_io.specs.Causes.{Rose};
+ghost use Rattle.dup_io.specs.Lines.{to_read, source_of, reference_of, number_of, fault_of};
+ghost use Rattle.dup_names.specs.Words.{same};
+ghost use Rattle.dup_main.specs.Session.{line as line_text};
+ghost use Rattle.dup_main.specs.Stops.{CountsSite, ReadsSite, StopsInSite};
+ghost use Rattle.dup_main.specs.Transcript.{is_end};
+
+use crate::stop::Stop;
+use dup_io::{Lines, Source};
+use std::alloc::{AllocError, Global};
+
+/// A site text, and whether a script follows it.
+#[derive(Drop)]
+pub(crate) struct SiteText {
+    pub(crate) text: Vec<u8>,
+    pub(crate) has_script: bool,
+}
+
+/// Whether a line ends the site text.
+fn is_end(line: &[u8]) -> bool
+    ensures { result ≡ is_end line.now }
+{
+    line == b"---".as_slice()
+}
+
+fn put_line(line: &[u8], text: &mut Vec<u8>) -> Result<(), Stop>
+    ensures text { OnOk result (text.new.items ≡ text.old.items ++ line_text line.now) }
+    ensures err { IfErr result (λ stop. stop ≡ Stop.NoMemory) }
+{
+    text.extend_from_slice(line).map_err(|_| Stop::NoMemory)?;
+    text.push(b'\n').map_err(|_| Stop::NoMemory)?;
+    Ok(())
+}
+
+/// Reads the lines of the site text, up to a line `---` or the end of the input.
+pub(crate) fn read_site_text<'s, S: Source>(
+    alloc: Global,
+    lines: &mut Lines<'s, S>,
+) -> Result<SiteText, Stop>
+    requires { fault_of lines.old ≡ None }
+    ensures same_reference { reference_of lines.new ≡ reference_of lines.old }
+    ensures text { IfOk result (λ read. ReadsSite (to_read S.left lines.old) (if read.has_script then to_read S.left lines.new else Some Whole) read.text.items) }
+    ensures lines { IfOk result (λ read. OnTrue read.has_script (CountsSite (to_read S.left lines.old) (number_of lines.old) (number_of lines.new))) }
+    ensures at_end { IfOk result (λ read. OnFalse read.has_script (IsAtEnd (S.left (source_of lines.new)))) }
+    ensures no_stop { OnOk result (fault_of lines.new ≡ None) }
+    ensures stopped { IfErr result (λ stop. StopsInSite stop (to_read S.left lines.old)) }
+    ensures read_fault { IsErrOf result Stop.ReadFault → Rose (S.faults (source_of lines.old)) (S.faults (source_of lines.new)) }
+    ensures no_fault { result ≢ Err Stop.ReadFault → S.faults (source_of lines.new) ≡ S.faults (source_of lines.old) }
+{
+    let mut text = Vec::new(alloc);
+    'lines: loop {
+        let Some(line) = lines.next(alloc)? else {
+            return Ok(SiteText {
+                text,
+                has_script: false,
+            });
+        };
+        if is_end(&line.bytes) {
+            return Ok(SiteText {
+                text,
+                has_script: true,
+            });
+        }
+        put_line(&line.bytes, &mut text)?;
+    }
+}

@@ -1,0 +1,50 @@
+ghost use Rattle.std.specs.Prelude.{◌≡◌};
+
+use dup_io::{Failed, LineFault};
+use dup_names::NoMemory;
+
+/// Why a run ends before it has done all.
+#[derive(Clone, Copy, Debug, PartialEq, Eq)]
+pub(crate) enum Stop {
+    ReadFault,
+    WriteFault,
+    BadSite,
+    NoMemory,
+    LineTooLong(u64),
+    InputTooLong,
+}
+
+impl From<Failed> for Stop {
+    ghost use Rattle.dup_main.specs.declared.stop.Stop.TheVariants.{WriteFault};
+
+    ghost from_gives = { λ _ stop. stop ≡ WriteFault };
+
+    fn from(_: Failed) -> Stop {
+        Stop::WriteFault
+    }
+}
+
+impl From<NoMemory> for Stop {
+    ghost use Rattle.dup_main.specs.declared.stop.Stop.TheVariants as stops;
+
+    ghost from_gives = { λ _ stop. stop ≡ stops.NoMemory };
+
+    fn from(_: NoMemory) -> Stop {
+        Stop::NoMemory
+    }
+}
+
+impl From<LineFault> for Stop {
+    ghost use Rattle.dup_main.specs.LineStops.{stop_of};
+
+    ghost from_gives = { λ fault stop. stop ≡ stop_of fault };
+
+    fn from(fault: LineFault) -> Stop {
+        match fault {
+            LineFault::ReadFault => Stop::ReadFault,
+            LineFault::LineTooLong(number) => Stop::LineTooLong(number),
+            LineFault::InputTooLong => Stop::InputTooLong,
+            LineFault::NoMemory => Stop::NoMemory,
+        }
+    }
+}

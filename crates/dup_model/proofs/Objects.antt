@@ -1,0 +1,172 @@
+-- Objects in order stand once each, and how many are left when some are taken.
+use Rattle.std.proofs.Common.{◌≡◌, suc, ◌+◌, ◌⊎◌, inl, inr, Bool, true, false, not, cond, ◌||◌, ◌&&◌, List, [], ◌∷◌, length, refl, sym, ap, subst, ◌∙◌, arith}
+use Rattle.std.specs.Prelude.{Option, Some, None}
+use Rattle.std.specs.Option.{option_cmp}
+use Rattle.std.specs.List.{filter, AllByRecursion}
+use Rattle.std.specs.Ordering.{nat_cmp, ordering_then, ordering_reverse}
+use Rattle.std.specs.declared.cmp.Ordering.{Ordering}
+use Rattle.std.specs.declared.cmp.Ordering.TheVariants.{Less, Equal, Greater}
+use Rattle.std.specs.Cmp.{IsTotalOrder, nat_cmp_total}
+use Rattle.std.specs.Cmp.Lexicographic.{nat_list_cmp_total, options_total}
+use Rattle.std.proofs.lemmas.Cmp.{then_total, on_total}
+use Rattle.std.proofs.lemmas.Bool.{true≢false, cases_Bool, or_cases, or_left}
+use Rattle.dup_names.specs.Order.{text_cmp, key_cmp, obj_cmp}
+use Rattle.dup_names.specs.declared.object.Obj.{Obj}
+use Rattle.dup_names.specs.Words.{Word, put, put_at, in_order}
+use Rattle.dup_model.specs.Touched.{same_obj, is_in, without}
+use Rattle.dup_model.proofs.Sound.{obj_same}
+use Rattle.dup_model.proofs.Reached.{or_right}
+use Rattle.dup_model.proofs.Earlier.{obj_itself}
+
+key_is : (a b : Option Word) → option_cmp text_cmp a b ≡ key_cmp a b
+key_is None None = refl
+key_is None (Some b) = refl
+key_is (Some a) None = refl
+key_is (Some a) (Some b) = refl
+
+pub obj_total : IsTotalOrder obj_cmp
+obj_total = subst IsTotalOrder (λ i a b. ordering_then (nat_cmp a.template b.template) (key_is a.key b.key i))
+    (then_total (on_total (λ o. o.template) nat_cmp_total) (on_total (λ o. o.key) (options_total nat_list_cmp_total)))
+
+-- rising objects
+
+abbrev Below : Obj → List Obj → Type 0
+Below x ys = AllByRecursion (λ y. obj_cmp x y ≡ Less) ys
+
+abbrev Rises : List Obj → Type 0
+Rises [] = Unit {0}
+Rises (x ∷ xs) = Below x xs × Rises xs
+
+below_more : (x y : Obj) (ys : List Obj) → obj_cmp x y ≡ Less → Below y ys → Below x ys
+below_more x y [] h all = tt
+below_more x y (z ∷ zs) h all = (obj_total.trans x y z h all.0, below_more x y zs h all.1)
+
+reversed : (x y : Obj) → obj_cmp x y ≡ Greater → obj_cmp y x ≡ Less
+reversed x y h = obj_total.antisymm y x ∙ ap ordering_reverse h
+
+below_put_at : (r : Ordering) (z x y : Obj) (ys rest : List Obj) → obj_cmp z x ≡ Less → Below z (y ∷ ys) → Below z rest → Below z (put_at r x y ys rest)
+below_put_at Less z x y ys rest h all more = (h, all)
+below_put_at Equal z x y ys rest h all more = all
+below_put_at Greater z x y ys rest h all more = (all.0, more)
+
+below_put : (z x : Obj) (ys : List Obj) → obj_cmp z x ≡ Less → Below z ys → Below z (put obj_cmp x ys)
+below_put z x [] h all = (h, tt)
+below_put z x (y ∷ ys) h all = below_put_at (obj_cmp x y) z x y ys (put obj_cmp x ys) h all (below_put z x ys h all.1)
+
+rises_put_at : (r : Ordering) (x y : Obj) (ys rest : List Obj) → obj_cmp x y ≡ r → Rises (y ∷ ys) → Rises rest → (obj_cmp y x ≡ Less → Below y rest) → Rises (put_at r x y ys rest)
+rises_put_at Less x y ys rest is h more below = ((is, below_more x y ys is h.0), h)
+rises_put_at Equal x y ys rest is h more below = h
+rises_put_at Greater x y ys rest is h more below = (below (reversed x y is), more)
+
+rises_put : (x : Obj) (ys : List Obj) → Rises ys → Rises (put obj_cmp x ys)
+rises_put x [] h = (tt, tt)
+rises_put x (y ∷ ys) h = rises_put_at (obj_cmp x y) x y ys (put obj_cmp x ys) refl h (rises_put x ys h.1) (λ less. below_put y x ys less h.0)
+
+rises_in_order : (os : List Obj) → Rises (in_order obj_cmp os)
+rises_in_order [] = tt
+rises_in_order (o ∷ os) = rises_put o (in_order obj_cmp os) (rises_in_order os)
+
+-- no object stands twice
+abbrev pub IsOnce : List Obj → Type 0
+IsOnce [] = Unit {0}
+IsOnce (o ∷ os) = (is_in os o ≡ false) × IsOnce os
+
+not_itself : (o : Obj) → obj_cmp o o ≡ Less → ⊥
+not_itself o h = less_greater (sym h ∙ obj_total.antisymm o o ∙ ap ordering_reverse h)
+  where
+    less_greater : Less ≡ Greater → ⊥
+    less_greater is = cc
+
+no_in_below : (o : Obj) (os : List Obj) → Below o os → is_in os o ≡ false
+no_in_below o [] all = refl
+no_in_below o (x ∷ xs) all = elim (cases_Bool (same_obj o x)) [
+  | inl tied ↦ absurd (not_itself o (ap (obj_cmp o) (obj_same o x tied) ∙ all.0))
+  | inr apart ↦ rw apart (no_in_below o xs all.1)
+]
+
+once_rises : (os : List Obj) → Rises os → IsOnce os
+once_rises [] h = tt
+once_rises (o ∷ os) h = (no_in_below o os h.0, once_rises os h.1)
+
+pub once_in_order : (os : List Obj) → IsOnce (in_order obj_cmp os)
+once_in_order os = once_rises (in_order obj_cmp os) (rises_in_order os)
+
+-- objects that pass a test
+
+and_false : (b : Bool) → (b && false) ≡ false
+and_false true = refl
+and_false false = refl
+
+in_filter_at : (f : Obj → Bool) (o x : Obj) (kept : List Obj) (more : Bool) → is_in kept x ≡ (more && f x) → (tie : Bool) → same_obj x o ≡ tie → (b : Bool) → f o ≡ b →
+    is_in (cond b (o ∷ kept) kept) x ≡ ((tie || more) && f x)
+in_filter_at f o x kept more rest true is true keeps = rw (is, obj_same x o is, keeps) refl
+in_filter_at f o x kept more rest true is false keeps = rest ∙ rw (obj_same x o is, keeps) (and_false more)
+in_filter_at f o x kept more rest false is true keeps = rw is rest
+in_filter_at f o x kept more rest false is false keeps = rest
+
+pub in_filter : (f : Obj → Bool) (os : List Obj) (x : Obj) → is_in (filter f os) x ≡ (is_in os x && f x)
+in_filter f [] x = refl
+in_filter f (o ∷ os) x = in_filter_at f o x (filter f os) (is_in os x) (in_filter f os x) (same_obj x o) refl (f o) refl
+
+pub once_filter : (f : Obj → Bool) (os : List Obj) → IsOnce os → IsOnce (filter f os)
+once_filter f [] h = tt
+once_filter f (o ∷ os) h = by_test (f o) (in_filter f os o ∙ ap (λ b. b && f o) h.0) (once_filter f os h.1)
+  where
+    by_test : (b : Bool) → is_in (filter f os) o ≡ false → IsOnce (filter f os) → IsOnce (cond b (o ∷ filter f os) (filter f os))
+    by_test true none rest = (none, rest)
+    by_test false none rest = rest
+
+pub filter_same : (f g : Obj → Bool) (os : List Obj) → ((x : Obj) → is_in os x ≡ true → f x ≡ g x) → filter f os ≡ filter g os
+filter_same f g [] same = refl
+filter_same f g (o ∷ os) same =
+    ap (λ b. cond b (o ∷ filter f os) (filter f os)) (same o (or_left _ _ (obj_itself o)))
+    ∙ ap (λ rest. cond (g o) (o ∷ rest) rest) (filter_same f g os (λ x inside. same x (or_right _ _ inside)))
+
+apart_from : (o : Obj) (os : List Obj) (x : Obj) → is_in os o ≡ false → is_in os x ≡ true → same_obj x o ≡ false
+apart_from o os x none inside = elim (cases_Bool (same_obj x o)) [
+  | inl tied ↦ absurd (true≢false (sym inside ∙ ap (is_in os) (obj_same x o tied) ∙ none))
+  | inr apart ↦ apart
+]
+
+-- one more object is taken from those that are left
+pub one_less : (os : List Obj) → IsOnce os → (s : Obj → Bool) (o : Obj) → is_in os o ≡ true → s o ≡ false →
+    suc (length (without (λ x. same_obj x o || s x) os)) ≡ length (without s os)
+one_less [] h s o inside free = absurd (true≢false (sym inside))
+one_less (x ∷ xs) h s o inside free = by_tie (same_obj o x) refl (or_cases _ _ inside) (λ later. one_less xs h.1 s o later free)
+  where
+    by_kept : (b : Bool) → suc (length (filter (λ y. not (same_obj y o || s y)) xs)) ≡ length (filter (λ y. not (s y)) xs) →
+        suc (length (cond (not b) (x ∷ filter (λ y. not (same_obj y o || s y)) xs) (filter (λ y. not (same_obj y o || s y)) xs))) ≡ length (cond (not b) (x ∷ filter (λ y. not (s y)) xs) (filter (λ y. not (s y)) xs))
+    by_kept true later = later
+    by_kept false later = ap suc later
+
+    by_tie : (b : Bool) → same_obj o x ≡ b → (same_obj o x ≡ true) ⊎ (is_in xs o ≡ true) → (is_in xs o ≡ true → suc (length (without (λ x. same_obj x o || s x) xs)) ≡ length (without s xs)) →
+        suc (length (without (λ x. same_obj x o || s x) (x ∷ xs))) ≡ length (without s (x ∷ xs))
+    by_tie true tied which later =
+        let one : o ≡ x = obj_same o x tied in
+        let left : filter (λ y. not (same_obj y o || s y)) xs ≡ filter (λ y. not (s y)) xs =
+        filter_same (λ y. not (same_obj y o || s y)) (λ y. not (s y)) xs (λ y inside. ap (λ b. not (b || s y)) (apart_from o xs y (ap (is_in xs) one ∙ h.0) inside)) in
+        ap (λ b. suc (length (cond (not (b || s x)) (x ∷ filter (λ y. not (same_obj y o || s y)) xs) (filter (λ y. not (same_obj y o || s y)) xs)))) (ap (same_obj x) one ∙ obj_itself x)
+        ∙ ap (λ l. suc (length l)) left
+        ∙ sym (ap (λ b. length (cond (not b) (x ∷ filter (λ y. not (s y)) xs) (filter (λ y. not (s y)) xs))) (ap s (sym one) ∙ free))
+    by_tie false apart (inl tied) later = absurd (true≢false (sym tied ∙ apart))
+    by_tie false apart (inr inside) later =
+        let other : same_obj x o ≡ false = elim (cases_Bool (same_obj x o)) [ inl tied ↦ absurd (true≢false (sym (ap (λ y. same_obj y x) (sym (obj_same x o tied)) ∙ obj_itself x) ∙ apart)) | inr is ↦ is ] in
+        ap (λ b. suc (length (cond (not (b || s x)) (x ∷ filter (λ y. not (same_obj y o || s y)) xs) (filter (λ y. not (same_obj y o || s y)) xs)))) other
+        ∙ by_kept (s x) (later inside)
+
+-- several are taken
+pub some_less : (os : List Obj) → IsOnce os → (taken : List Obj) → IsOnce taken → (s : Obj → Bool) → ((x : Obj) → is_in taken x ≡ true → (is_in os x ≡ true) × (s x ≡ false)) →
+    length (without (λ x. is_in taken x || s x) os) + length taken ≡ length (without s os)
+some_less os h [] k s free = omega arith
+some_less os h (t ∷ taken) k s free =
+    let first : (is_in os t ≡ true) × (s t ≡ false) = free t (or_left _ _ (obj_itself t)) in
+    let rest : length (without (λ x. is_in taken x || s x) os) + length taken ≡ length (without s os) = some_less os h taken k.1 s (λ x inside. free x (or_right _ _ inside)) in
+    let one : suc (length (without (λ x. same_obj x t || (is_in taken x || s x)) os)) ≡ length (without (λ x. is_in taken x || s x) os) =
+    one_less os h (λ x. is_in taken x || s x) t first.0 (ap (λ b. b || s t) k.0 ∙ first.1) in
+    let turned : without (λ x. (same_obj x t || is_in taken x) || s x) os ≡ without (λ x. same_obj x t || (is_in taken x || s x)) os =
+    filter_same _ _ os (λ x inside. ap not (or_assoc (same_obj x t) (is_in taken x) (s x))) in
+    omega (arith, rest, one, ap length turned)
+  where
+    or_assoc : (a b c : Bool) → ((a || b) || c) ≡ (a || (b || c))
+    or_assoc true b c = refl
+    or_assoc false b c = refl

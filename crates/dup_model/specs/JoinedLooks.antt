@@ -1,0 +1,32 @@
+-- A look from the object's skeleton and the looks of what it embeds.
+use Rattle.std.specs.Prelude.{◌≡◌, ◌||◌, ◌∷◌, ◌++◌}
+use Rattle.std.specs.List.{flat_map, list_any}
+use Rattle.dup_names.specs.Order.{obj_cmp, text_cmp}
+use Rattle.dup_names.specs.declared.object.Obj.{Obj}
+use Rattle.dup_names.specs.declared.value.Piece.{Piece}
+use Rattle.dup_names.specs.declared.value.Piece.TheVariants as piece
+use Rattle.dup_names.specs.Words.{Word, in_order}
+use Rattle.dup_model.specs.Content.{Content}
+use Rattle.dup_model.specs.Show.{show}
+use Rattle.dup_model.specs.Skeletons.{skeleton, embeds}
+use Rattle.dup_model.specs.Looks.{uses, look}
+use Rattle.dup_model.specs.Touched.{touched, affected}
+use Rattle.dup_model.specs.Embeddings.{EmbedsEarlier}
+
+-- a piece's bytes, a hole's by `below`
+abbrev pub filled : (Obj → Word) → Piece → Word
+filled below (piece.Plain bytes) = bytes
+filled below (piece.Hole o) = below o
+
+-- the bytes are the pieces with the holes filled, and uses and links are the unions with the object's own
+pub record IsJoined (c : Content) (o : Obj) : Type 0 where
+  pub bytes : show c o ≡ flat_map (filled (show c)) (skeleton c o).pieces
+  pub uses : uses c o ≡ in_order obj_cmp (o ∷ flat_map (uses c) (embeds c o))
+  pub links : (look c o).links ≡ in_order text_cmp ((skeleton c o).links ++ flat_map (λ f. (look c f).links) (embeds c o))
+
+abbrev pub LooksAreJoined : Type 0
+LooksAreJoined = (c : Content) (o : Obj) → EmbedsEarlier c → IsJoined c o
+
+-- an object is affected where it is touched or embeds an affected one
+abbrev pub AffectedUpwards : Type 0
+AffectedUpwards = (a b : Content) (o : Obj) → EmbedsEarlier a → affected a b o ≡ (touched a b o || list_any (affected a b) (embeds a o))

@@ -1,0 +1,41 @@
+-- The limits of a journal and of a kind's rows, and why a commit is refused.
+use Rattle.std.specs.Prelude.{ℕ, ◌+◌, ◌||◌, not, nat_lt, List, length, Option, Some, None, if◌then◌else◌}
+use Rattle.std.specs.List.{sum_by}
+use Rattle.std.specs.Option.{option_or}
+use Rattle.dup_template.specs.declared.site.Parts.{Parts}
+use Rattle.dup_model.specs.declared.edit.Edit.{Edit}
+use Rattle.dup_model.specs.declared.edit.Edit.TheVariants.{Put, Remove}
+use Rattle.dup_model.specs.Commits.{Commit, Refusal, JournalFull, refusal}
+use Rattle.dup_model.specs.Versions.{content}
+
+-- the rows of a kind, the commits of a journal, and its bytes
+pub record Limits : Type 0 where
+  pub rows : ℕ
+  pub commits : ℕ
+  pub bytes : ℕ
+
+-- the limits where none are named
+abbrev pub usual_limits : Limits
+usual_limits = record { rows = 4096; commits = 1048576; bytes = 1073741824 }
+
+-- the bytes of a change: of its kind, key, field names and texts
+abbrev pub edit_bytes : Edit → ℕ
+edit_bytes (Put kind key fields) = length kind + length key + sum_by (λ f. length f.0 + length f.1) fields
+edit_bytes (Remove kind key) = length kind + length key
+
+abbrev pub commit_bytes : Commit → ℕ
+commit_bytes commit = sum_by edit_bytes commit
+
+abbrev pub journal_bytes : List Commit → ℕ
+journal_bytes commits = sum_by commit_bytes commits
+
+-- the journal has its commits, or this one would take it past its bytes
+abbrev pub journal_full : Limits → List Commit → Commit → Option Refusal
+journal_full limits commits commit =
+    if not (nat_lt (length commits) limits.commits) || nat_lt limits.bytes (journal_bytes commits + commit_bytes commit)
+    then Some (JournalFull (length commits) (journal_bytes commits)) else None
+
+-- the journal is looked at first
+abbrev pub commit_refusal : Parts → Limits → List Commit → Commit → Option Refusal
+commit_refusal site limits commits commit =
+    option_or (journal_full limits commits commit) (refusal (content site commits) commit limits.rows)

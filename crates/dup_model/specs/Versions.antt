@@ -1,0 +1,21 @@
+-- Histories of commits, and the versions that they make.
+use Rattle.std.specs.Prelude.{◌≡◌, ℕ, List, take, Some, None, slice_get}
+use Rattle.std.specs.List.{fold}
+use Rattle.dup_template.specs.declared.site.Parts.{Parts}
+use Rattle.dup_model.specs.Content.{Content, start}
+use Rattle.dup_model.specs.Commits.{Commit, after, misfit}
+use Rattle.dup_model.specs.Pages.{Target, target}
+
+-- the content after all these commits
+abbrev pub content : Parts → List Commit → Content
+content site commits = fold after (start site) commits
+
+abbrev pub version : Parts → List Commit → ℕ → Content
+version site commits i = content site (take i commits)
+
+abbrev pub target_at : Parts → List Commit → ℕ → Target
+target_at site commits i = target (version site commits i)
+
+-- each commit fits the content before it
+pub record IsHistory (site : Parts) (commits : List Commit) : Type 0 where
+  pub fits : (k : ℕ) (commit : Commit) → slice_get commits k ≡ Some commit → misfit (version site commits k) commit ≡ None

@@ -1,0 +1,11 @@
+use dup_lists::Listed;
+use dup_names::{Item, Obj};
+
+/// What a statement gives: bytes, an embedding, an item that it reads, or the path of a link.
+#[derive(Drop)]
+pub enum Mark {
+    Plain(Listed<u8>),
+    Hole(Obj),
+    Read(Item),
+    Goes(Listed<u8>),
+}

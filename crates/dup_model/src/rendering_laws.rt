@@ -1,0 +1,56 @@
+ghost use Rattle.dup_model.specs.Shows.{EachIsShown};
+ghost use Rattle.dup_model.specs.Uses.{ShowIsOfMarks, UsesAreAll, LooksShow};
+ghost use Rattle.dup_model.specs.JoinedLooks.{LooksAreJoined, AffectedUpwards};
+ghost use Rattle.dup_model.specs.Incremental.{UntouchedIsSame, UnaffectedLooksSame};
+ghost use Rattle.dup_model.specs.Expansions.{ExpansionsAreGood, GoodIsRight};
+ghost use Rattle.dup_model.specs.Found.{FoundIsFound};
+ghost use Rattle.dup_model.specs.Jobs.{FoundAreJobs};
+ghost use Rattle.dup_model.specs.ChangedItems.{ChangesExist, VersionsHaveKeys, ReadsAreItems, TouchedByChanges};
+ghost use Rattle.dup_model.specs.GoodSites.{GoodEmbedsEarlier, GoodJobsFit};
+
+/// What the check of a site establishes of its contents: the premises of the laws on rendering.
+pub fn good_sites_law()
+    ensures earlier { GoodEmbedsEarlier }
+    ensures jobs { GoodJobsFit }
+{}
+
+/// What each kind of statement shows.
+pub fn shows_law()
+    ensures each { EachIsShown }
+    ensures marks { ShowIsOfMarks }
+{}
+
+/// What an object uses, and how its look is put together.
+pub fn uses_law()
+    ensures uses { UsesAreAll }
+    ensures looks { LooksShow }
+    ensures joined { LooksAreJoined }
+{}
+
+/// What no changed item touches stays the same.
+pub fn incremental_law()
+    ensures alone { UntouchedIsSame }
+    ensures looks { UnaffectedLooksSame }
+    ensures upwards { AffectedUpwards }
+{}
+
+/// The list of changed items exists, and an object is touched exactly where it reads one of them.
+pub fn changes_law()
+    ensures exist { ChangesExist }
+    ensures versions { VersionsHaveKeys }
+    ensures items { ReadsAreItems }
+    ensures touched { TouchedByChanges }
+{}
+
+/// What is expanded at a content is a good expansion, and a good expansion whose notes aren't stale
+/// is right.
+pub fn expansions_law()
+    ensures good { ExpansionsAreGood }
+    ensures right { GoodIsRight }
+{}
+
+/// What a work has found, and that it can be expanded.
+pub fn jobs_law()
+    ensures found { FoundIsFound }
+    ensures jobs { FoundAreJobs }
+{}

@@ -1,0 +1,4 @@
+pub mod Grammar
+pub mod Order
+pub mod Short
+pub mod Words

@@ -1,0 +1,128 @@
+ghost use Rattle.std.specs.Prelude.{◌≡◌, ◌↔◌, ◌≤◌, IsTrue, IfOk, OnOk, IsSome, IfSome, length, IsUtf8, nat_eq};
+ghost use Rattle.std.specs.Cmp.{partial_equiv_from_equiv};
+ghost use Rattle.std.specs.Cmp.Lexicographic.{pointwise, nat_list_eq_equiv};
+
+use std::alloc::{AllocError, AllocFailed, Global};
+use std::marker::Model;
+use std::str;
+use std::sync::Arc;
+use thiserror::Error;
+
+/// Want of memory.
+#[derive(Clone, Copy, Debug, PartialEq, Eq, Error)]
+#[error("out of memory")]
+pub struct NoMemory;
+
+impl From<AllocError> for NoMemory {
+    fn from(_error: AllocError) -> NoMemory {
+        NoMemory
+    }
+}
+
+impl<T: Drop> From<AllocFailed<T>> for NoMemory {
+    fn from(_error: AllocFailed<T>) -> NoMemory {
+        NoMemory
+    }
+}
+
+/// A shared string of bytes, of any length.
+#[derive(Drop)]
+pub struct Bytes {
+    bytes: Arc<Vec<u8>, Global>,
+}
+
+impl Model for Bytes {
+    ghost use Rattle.std.specs.Prelude.{List, ℕ};
+
+    ghost Value = { List ℕ };
+
+    ghost view = { λ t. t.bytes.value.items };
+}
+
+impl Bytes {
+    /// Shares these bytes, which aren't copied.
+    pub fn of(alloc: Global, bytes: Vec<u8>) -> Result<Bytes, NoMemory>
+        ensures { IfOk result (λ made. made ≡ bytes.items) }
+    {
+        let bytes = Arc::new(alloc, bytes)?;
+        Ok(Bytes { bytes })
+    }
+
+    /// The bytes.
+    pub fn bytes(&self) -> &[u8]
+        ensures { result.now ≡ self.now }
+    {
+        self.bytes.as_slice()
+    }
+
+    /// One more owner of the same bytes, which aren't copied.
+    pub fn share(&self) -> Result<Bytes, NoMemory>
+        ensures { IfOk result (λ made. made ≡ self.now) }
+    {
+        let bytes = Arc::try_clone(&self.bytes)?;
+        Ok(Bytes { bytes })
+    }
+}
+
+impl PartialEq for Bytes {
+    ghost eq = { pointwise nat_eq };
+
+    ghost laws = { partial_equiv_from_equiv nat_list_eq_equiv };
+
+    fn eq(&self, other: &Bytes) -> bool {
+        self.bytes() == other.bytes()
+    }
+}
+
+impl Eq for Bytes {
+    ghost laws = { nat_list_eq_equiv };
+}
+
+/// A shared text: UTF-8 of at most 4,096 bytes.
+#[derive(Drop, PartialEq, Eq)]
+pub struct Text {
+    bytes: Bytes,
+}
+
+impl Model for Text {
+    ghost use Rattle.std.specs.Prelude.{List, ℕ, IsUtf8, ◌≤◌, length};
+
+    ghost Value = { List ℕ };
+
+    ghost view = { λ t. t.bytes };
+
+    ghost invariant = { λ t. (length t.bytes ≤ 4096) × ∥ IsUtf8 t.bytes ∥₁ };
+
+    ghost inverse = { λ xs. record { bytes = xs } };
+}
+
+impl Text {
+    /// The text of these bytes, which are copied, or `None` where they are none.
+    pub fn read(alloc: Global, bytes: &[u8]) -> Result<Option<Text>, NoMemory>
+        ensures some { IfOk result (λ read. IsSome read ↔ ((length bytes.now ≤ 4096) × IsUtf8 bytes.now)) }
+        ensures value { IfOk result (λ read. IfSome read (λ text. text ≡ bytes.now)) }
+    {
+        if bytes.len() > 4096 || str::from_utf8(bytes).is_err() {
+            return Ok(None);
+        }
+        let bytes = Bytes::of(alloc, Vec::from_slice(alloc, bytes)?)?;
+        Ok(Some(Text { bytes }))
+    }
+
+    /// The bytes.
+    pub fn bytes(&self) -> &[u8]
+        ensures value { result.now ≡ self.now }
+        ensures fits { length self.now ≤ 4096 }
+        ensures utf8 { IsUtf8 self.now }
+    {
+        self.bytes.bytes()
+    }
+
+    /// One more owner of the same text, which isn't copied.
+    pub fn share(&self) -> Result<Text, NoMemory>
+        ensures { IfOk result (λ made. made ≡ self.now) }
+    {
+        let bytes = self.bytes.share()?;
+        Ok(Text { bytes })
+    }
+}

@@ -1,0 +1,48 @@
+// What is read, and what is shown.
+use crate::key::KeyList;
+use crate::object::Obj;
+use crate::path::Path;
+use crate::shared::{Bytes, Text};
+use dup_lists::Listed;
+
+/// The value of an item.
+#[derive(Drop, PartialEq, Eq)]
+pub enum Value {
+    /// Of a field.
+    Text(Text),
+    /// Of a row.
+    Exists(bool),
+    /// Of a list or a group.
+    Keys(KeyList),
+}
+
+/// A part of a skeleton.
+#[derive(Drop, PartialEq, Eq)]
+pub enum Piece {
+    /// Bytes as they are shown.
+    Plain(Bytes),
+    /// The place of an embedded object.
+    Hole(Obj),
+}
+
+/// What an object's own statements show, with a hole for each object that they embed.
+#[derive(Drop, PartialEq, Eq)]
+pub struct Skeleton {
+    /// The parts, in the order in which they are shown.
+    pub pieces: Listed<Piece>,
+    /// The targets of the links, in path order, each once.
+    pub links: Listed<Path>,
+}
+
+/// What an object shows, with all that it embeds.
+#[derive(Drop, PartialEq, Eq)]
+pub struct Look {
+    /// The object.
+    pub obj: Obj,
+    /// What it shows.
+    pub bytes: Bytes,
+    /// It and all that it embeds, followed down, each with what it shows, in object order.
+    pub uses: Listed<(Obj, Bytes)>,
+    /// The targets of the links in all of these, in path order, each once.
+    pub links: Listed<Path>,
+}

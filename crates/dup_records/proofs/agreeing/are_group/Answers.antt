@@ -1,0 +1,5 @@
+use Rattle.dup_records.proofs.SameKeys.{keys_same}
+use Rattle.dup_records.proofs.agreeing.are_group.Goals as goal
+
+pub returns-in-Keys : goal.returns-in-Keys
+returns-in-Keys c = rw (c.in-Keys.is, ← c.items.ensures) (keys_same _ _ _ c.group_has_keys.ensures)

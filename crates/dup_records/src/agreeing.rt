@@ -1,0 +1,47 @@
+// Whether what an item is now is what was seen of it.
+ghost use Rattle.std.specs.Prelude.{◌≡◌, ◌↔◌, IsTrue, Some, map};
+ghost use Rattle.std.specs.List.{filter};
+ghost use Rattle.dup_names.specs.Words.{same};
+ghost use Rattle.dup_names.specs.declared.value.Value.TheVariants as seen_as;
+ghost use Rattle.dup_model.specs.Content.{texts_at};
+
+use crate::keys::{group_has_keys, have_keys};
+use crate::rows::Entry;
+use dup_names::{Key, Value};
+
+pub(crate) fn is_text(bytes: &[u8], seen: &Value) -> bool
+    ensures { IsTrue result ↔ (seen_as.Text bytes.now ≡ seen.now) }
+{
+    match seen {
+        Value::Text(text) => text.bytes() == bytes,
+        _ => false,
+    }
+}
+
+pub(crate) fn is_answer(answer: bool, seen: &Value) -> bool
+    ensures { IsTrue result ↔ (seen_as.Exists answer ≡ seen.now) }
+{
+    match seen {
+        Value::Exists(exists) => *exists == answer,
+        _ => false,
+    }
+}
+
+pub(crate) fn are_keys(entries: &[Entry], seen: &Value) -> bool
+    ensures { IsTrue result ↔ (seen_as.Keys (map (λ e. e.0) entries.now) ≡ seen.now) }
+{
+    match seen {
+        Value::Keys(keys) => have_keys(entries, keys.items()),
+        _ => false,
+    }
+}
+
+pub(crate) fn are_group(entries: &[Entry], field: usize, key: &Key, seen: &Value) -> bool
+    ensures { IsTrue result
+        ↔ (seen_as.Keys (map (λ e. e.0) (filter (λ e. same (texts_at (Some e.1) field) key.now) entries.now)) ≡ seen.now) }
+{
+    match seen {
+        Value::Keys(keys) => group_has_keys(entries, field, key, keys.items()),
+        _ => false,
+    }
+}

@@ -1,0 +1,296 @@
+// Contents: a site and the rows of its kinds.
+ghost use Rattle.std.specs.Prelude.{◌≡◌, ◌<◌, ◌↔◌, [], IsTrue, IfOk, length, map, not, is_some, replicate, Some};
+ghost use Rattle.std.specs.List.{filter, slice_get};
+ghost use Rattle.std.specs.Option.{unwrap_or};
+ghost use Rattle.dup_names.specs.Words.{place, same};
+ghost use Rattle.dup_model.specs.Names.{fields_at, kind_at};
+ghost use Rattle.dup_model.specs.Content.{start, table, text, texts_at, row, keys, group, value, IsOf};
+ghost use Rattle.dup_model.specs.Commits.{blank, put_row, with_fields, with_table};
+ghost use Rattle.dup_model.specs.Tables.{IsRising};
+
+use crate::agreeing::{are_group, are_keys, is_answer, is_text};
+use crate::keys::{keys_of, keys_where};
+use crate::rows::{
+    Entry, find_row, find_text, rows_with, rows_without, set_fields, text_or_empty, texts_or_blank,
+};
+use dup_lists::Listed;
+use dup_names::{Item, Key, KeyList, Name, NoMemory, Text, Value};
+use dup_template::{KindPart, Site};
+use std::alloc::Global;
+use std::marker::Model;
+use std::sync::Arc;
+
+type Table = Listed<Entry>;
+
+/// A site, and for each kind its rows, which are shared with the contents that this one was made from.
+/// The rows of a kind stand in the order of their keys, so a row is found by a binary search.
+#[derive(Drop)]
+pub struct Content {
+    site: Arc<Site, Global>,
+    tables: Vec<Arc<Table, Global>>,
+}
+
+impl Model for Content {
+    ghost use Rattle.std.specs.Prelude.{◌≡◌, map, length};
+    ghost use Rattle.std.specs.List.{AllByRecursion};
+    ghost use Rattle.std.specs.Coded.{codes};
+    ghost use Rattle.dup_template.specs.contracts.statement.Statement as statement;
+    ghost use Rattle.dup_model.specs.Content.{Content as Contents};
+    ghost use Rattle.dup_model.specs.Frame.{frame_of, bodies_of};
+    ghost use Rattle.dup_model.specs.Tables.{IsRising};
+
+    ghost Value = { Contents };
+
+    ghost coded = { Prim.hlevel (codes, statement.the_row.coded) };
+
+    ghost view = { λ c. record { frame = frame_of c.site.value; bodies = bodies_of c.site.value; tables = map (λ t. t.value) c.tables.items } };
+
+    ghost invariant = { λ c. (length c.tables.items ≡ length c.site.value.kinds) × AllByRecursion IsRising (map (λ t. t.value) c.tables.items) };
+}
+
+// The number of a kind, or their number where it is absent.
+fn kind_place(kinds: &[KindPart], name: &Name) -> usize
+    ensures { result ≡ place name.now (map (λ k. k.name) kinds.now) }
+{
+    for (index, kind) in kinds.iter().enumerate() {
+        if kind.name == *name {
+            return index;
+        }
+    }
+    kinds.len()
+}
+
+fn table_at(tables: &[Arc<Table, Global>], kind: usize) -> &[Entry]
+    ensures { result.now ≡ unwrap_or (slice_get (map (λ t. t.value) tables.now) kind) [] }
+{
+    match tables.get(kind) {
+        None => &[],
+        Some(table) => table.items(),
+    }
+}
+
+fn shared_tables(
+    alloc: Global,
+    tables: &[Arc<Table, Global>],
+) -> Result<Vec<Arc<Table, Global>>, NoMemory>
+    ensures { IfOk result (λ made. map (λ t. t.value) made.items ≡ map (λ t. t.value) tables.now) }
+{
+    let mut made = Vec::with_capacity(alloc, tables.len())?;
+    for table in tables {
+        made.push(Arc::try_clone(table)?)?;
+    }
+    Ok(made)
+}
+
+fn empty_tables(alloc: Global, count: usize) -> Result<Vec<Arc<Table, Global>>, NoMemory>
+    ensures tables { IfOk result (λ made. map (λ t. t.value) made.items ≡ replicate count []) }
+{
+    let mut made = Vec::with_capacity(alloc, count)?;
+    for _index in 0..count {
+        let table = Listed::of(Vec::new(alloc));
+        made.push(Arc::new(alloc, table)?)?;
+    }
+    Ok(made)
+}
+
+impl Content {
+    /// Content 0 of a site: no rows.
+    pub fn start(alloc: Global, site: Arc<Site, Global>) -> Result<Content, NoMemory>
+        ensures { IfOk result (λ made. made ≡ start site.value) }
+    {
+        let tables = empty_tables(alloc, site.kinds().len())?;
+        Ok(Content { site, tables })
+    }
+
+    /// An equal content, which shares the site and all rows.
+    pub fn copy(&self, alloc: Global) -> Result<Content, NoMemory>
+        ensures { IfOk result (λ made. made ≡ self.now) }
+    {
+        let site = Arc::try_clone(&self.site)?;
+        let tables = shared_tables(alloc, &self.tables)?;
+        Ok(Content { site, tables })
+    }
+
+    /// The site.
+    pub fn site(&self) -> &Arc<Site, Global>
+        ensures { IsOf result.now.value self.now }
+    {
+        &self.site
+    }
+
+    fn kinds(&self) -> &[KindPart]
+        ensures { result.now ≡ self.now.frame.kinds }
+    {
+        self.site.kinds()
+    }
+
+    /// The number of a kind, or the number of kinds where there is none of that name.
+    pub(crate) fn kind_at(&self, name: &Name) -> usize
+        ensures { result ≡ kind_at self.now.frame name.now }
+    {
+        kind_place(self.kinds(), name)
+    }
+
+    /// The number of kinds.
+    pub(crate) fn kind_count(&self) -> usize
+        ensures { result ≡ length self.now.frame.kinds }
+    {
+        self.kinds().len()
+    }
+
+    /// The names of a kind's fields, none of a kind that isn't there.
+    pub(crate) fn fields_at(&self, kind: usize) -> &[Name]
+        ensures { result.now ≡ fields_at self.now.frame kind }
+    {
+        match self.kinds().get(kind) {
+            None => &[],
+            Some(part) => part.fields.items(),
+        }
+    }
+
+    /// The rows of a kind, none of a kind that isn't there.
+    pub(crate) fn rows_at(&self, kind: usize) -> &[Entry]
+        ensures value { result.now ≡ table self.now kind }
+        ensures rising { IsRising result.now }
+    {
+        table_at(&self.tables, kind)
+    }
+
+    /// The rows of a kind in the order of their keys, none of a kind that isn't there.
+    pub fn rows(&self, kind: u16) -> &[Entry]
+        ensures value { result.now ≡ table self.now kind }
+        ensures rising { IsRising result.now }
+    {
+        self.rows_at(usize::from(kind))
+    }
+
+    /// The same content with these rows of a kind.
+    pub(crate) fn with_rows(
+        &self,
+        alloc: Global,
+        kind: usize,
+        rows: Vec<Entry>,
+    ) -> Result<Content, NoMemory>
+        requires kind { kind < length self.now.frame.kinds }
+        requires rising { IsRising rows.items }
+        ensures { IfOk result (λ made. made ≡ with_table self.now kind rows.items) }
+    {
+        let mut tables = shared_tables(alloc, &self.tables)?;
+        tables[kind] = Arc::new(alloc, Listed::of(rows))?;
+        let site = Arc::try_clone(&self.site)?;
+        Ok(Content { site, tables })
+    }
+
+    /// The same content with these texts in the row of a kind that is under a key.
+    pub(crate) fn with_put(
+        &self,
+        alloc: Global,
+        kind: usize,
+        key: &Key,
+        fields: &[(Name, Text)],
+    ) -> Result<Content, NoMemory>
+        requires { kind < length self.now.frame.kinds }
+        ensures { IfOk result (λ made. let names = fields_at self.now.frame kind in made
+            ≡ with_table self.now kind (put_row (key.now, with_fields names fields.now (unwrap_or (row self.now kind key.now) (blank names))) (table self.now kind))) }
+    {
+        let names = self.fields_at(kind);
+        let entries = self.rows_at(kind);
+        let mut texts = texts_or_blank(alloc, entries, key, names)?;
+        set_fields(names, fields, &mut texts)?;
+        let made = rows_with(alloc, entries, (*key, Listed::of(texts)))?;
+        self.with_rows(alloc, kind, made)
+    }
+
+    /// The same content without the row of a kind that is under a key.
+    pub(crate) fn without(&self, alloc: Global, kind: usize, key: &Key) -> Result<Content, NoMemory>
+        requires { kind < length self.now.frame.kinds }
+        ensures { IfOk result (λ made. made
+            ≡ with_table self.now kind (filter (λ e. not (same e.0 key.now)) (table self.now kind))) }
+    {
+        let made = rows_without(alloc, self.rows_at(kind), key)?;
+        self.with_rows(alloc, kind, made)
+    }
+
+    /// Whether a kind has a row under this key.
+    pub(crate) fn is_row(&self, kind: usize, key: &Key) -> bool
+        ensures { result ≡ is_some (row self.now kind key.now) }
+    {
+        find_row(self.rows_at(kind), key).is_some()
+    }
+
+    /// Whether a row is there. It takes no memory, nor does `text`.
+    pub fn has_row(&self, kind: u16, key: &Key) -> bool
+        ensures { result ≡ is_some (row self.now kind key.now) }
+    {
+        self.is_row(usize::from(kind), key)
+    }
+
+    /// A row's field, empty where the row or the field isn't there.
+    pub fn text<'a>(&'a self, kind: u16, key: &Key, field: u16) -> &'a [u8]
+        ensures { result.now ≡ text self.now kind key.now field }
+    {
+        match find_text(self.rows(kind), key, usize::from(field)) {
+            None => &[],
+            Some(text) => text.bytes(),
+        }
+    }
+
+    // A row's field as a value, whose text is shared where the row is there.
+    fn text_value(&self, alloc: Global, kind: u16, key: &Key, field: u16) -> Result<Text, NoMemory>
+        ensures { IfOk result (λ made. made ≡ text self.now kind key.now field) }
+    {
+        text_or_empty(alloc, find_text(self.rows(kind), key, usize::from(field)))
+    }
+
+    /// The keys of a kind, in order.
+    pub fn keys(&self, alloc: Global, kind: u16) -> Result<KeyList, NoMemory>
+        ensures { IfOk result (λ made. made ≡ keys self.now kind) }
+    {
+        let keys = keys_of(alloc, self.rows(kind))?;
+        Ok(Listed::of(keys))
+    }
+
+    /// The keys of the rows whose field is this text, in order. It walks the whole kind.
+    pub fn group(
+        &self,
+        alloc: Global,
+        kind: u16,
+        field: u16,
+        key: &Key,
+    ) -> Result<KeyList, NoMemory>
+        ensures { IfOk result (λ made. made ≡ group self.now kind field key.now) }
+    {
+        let keys = keys_where(alloc, self.rows(kind), usize::from(field), key)?;
+        Ok(Listed::of(keys))
+    }
+
+    /// The value of an item.
+    pub fn value(&self, alloc: Global, item: &Item) -> Result<Value, NoMemory>
+        ensures { IfOk result (λ made. made ≡ value self.now item.now) }
+    {
+        match item {
+            Item::Field { kind, key, field } => {
+                Ok(Value::Text(self.text_value(alloc, *kind, key, *field)?))
+            }
+            Item::Row { kind, key } => Ok(Value::Exists(self.has_row(*kind, key))),
+            Item::List { kind } => Ok(Value::Keys(self.keys(alloc, *kind)?)),
+            Item::Group { kind, field, key } => {
+                Ok(Value::Keys(self.group(alloc, *kind, *field, key)?))
+            }
+        }
+    }
+
+    /// Whether an item has this value. It takes no memory; of a list or a group it walks the whole kind.
+    pub fn agrees(&self, item: &Item, seen: &Value) -> bool
+        ensures { IsTrue result ↔ (value self.now item.now ≡ seen.now) }
+    {
+        match item {
+            Item::Field { kind, key, field } => is_text(self.text(*kind, key, *field), seen),
+            Item::Row { kind, key } => is_answer(self.has_row(*kind, key), seen),
+            Item::List { kind } => are_keys(self.rows(*kind), seen),
+            Item::Group { kind, field, key } => {
+                are_group(self.rows(*kind), usize::from(*field), key, seen)
+            }
+        }
+    }
+}

@@ -1,0 +1,21 @@
+//! Commits and contents: what a commit may say, what it does to the rows of a site, and what is read of them.
+#![tactic(auto)]
+
+mod agreeing;
+mod applying;
+mod change;
+mod commit;
+mod content;
+mod keys;
+mod refusal;
+mod rows;
+
+pub use applying::apply;
+pub use change::Change;
+pub use commit::{Commit, Limits};
+pub use content::Content;
+pub use refusal::CommitRefusal;
+pub use rows::Entry;
+
+#[cfg(test)]
+mod tests;

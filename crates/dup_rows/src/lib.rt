@@ -1,0 +1,15 @@
+//! Runs of the top call over sources and sinks in memory. There is nothing but tests here.
+#![tactic(auto)]
+
+#[cfg(test)]
+mod faults;
+#[cfg(test)]
+mod limits;
+#[cfg(test)]
+mod lines;
+#[cfg(test)]
+mod plays;
+#[cfg(test)]
+mod settles;
+#[cfg(test)]
+mod sites;

@@ -1,0 +1,8 @@
+pub mod Canonical
+pub mod Draft
+pub mod Drafted
+pub mod Found
+pub mod Kept
+pub mod Reads
+pub mod Spelling
+pub mod Words

@@ -1,0 +1,215 @@
+ghost use Rattle.std.specs.Prelude.{◌≡◌, Some, None, IfOk, IfSome, [], if◌then◌else◌};
+ghost use Rattle.dup_site.specs.Draft as draft;
+ghost use Rattle.dup_site.specs.Drafted.{drafted, Goes};
+ghost use Rattle.dup_template.specs.declared.statement.Statement.TheVariants as statement;
+
+use crate::line::{Head, Line};
+use dup_template::{Body, KindPart, PageRule, Statement, TemplatePart};
+use std::alloc::{AllocError, Global};
+
+/// A template or a statement that is still open, and its statements so far.
+#[derive(Drop)]
+pub struct Open {
+    pub head: Head,
+    pub done: Vec<Statement>,
+}
+
+/// The parts so far, and what is open, the innermost last.
+#[derive(Drop)]
+pub struct Reading {
+    pub kinds: Vec<KindPart>,
+    pub templates: Vec<TemplatePart>,
+    pub pages: Vec<PageRule>,
+    pub stack: Vec<Open>,
+}
+
+/// Whether the line may stand there.
+pub(crate) type Stands = Result<bool, AllocError>;
+
+#[tactic(auto, using(crate::proofs::Stack::outward_last))]
+fn put(reading: &mut Reading, statement: Statement) -> Stands
+    ensures { Goes result (drafted reading.new) (draft.put statement (drafted reading.old) (drafted reading.old).stack) }
+{
+    match reading.stack.pop() {
+        None => Ok(false),
+        Some(open) => {
+            let Open { head, mut done } = open;
+            done.push(statement)?;
+            reading.stack.push(Open { head, done })?;
+            Ok(true)
+        }
+    }
+}
+
+#[tactic(auto, using(crate::proofs::Stack::outward_last))]
+fn open_statement(alloc: Global, reading: &mut Reading, head: Head) -> Stands
+    ensures { Goes result (drafted reading.new) (draft.open_statement head (drafted reading.old) (drafted reading.old).stack) }
+{
+    match reading.stack.pop() {
+        None => Ok(false),
+        Some(outer) => {
+            let done = Vec::new(alloc);
+            reading.stack.push(outer)?;
+            reading.stack.push(Open { head, done })?;
+            Ok(true)
+        }
+    }
+}
+
+#[tactic(auto, using(crate::proofs::Stack::outward_last))]
+fn put_template(reading: &mut Reading, template: TemplatePart) -> Stands
+    ensures { Goes result (drafted reading.new) (draft.put_template template (drafted reading.old) (drafted reading.old).stack) }
+{
+    match reading.stack.pop() {
+        None => {
+            reading.templates.push(template)?;
+            Ok(true)
+        }
+        Some(_) => Ok(false),
+    }
+}
+
+#[tactic(auto, using(crate::proofs::Stack::outward_last))]
+fn put_page(reading: &mut Reading, rule: PageRule) -> Stands
+    ensures { Goes result (drafted reading.new) (draft.put_page rule (drafted reading.old) (drafted reading.old).stack) }
+{
+    match reading.stack.pop() {
+        None => {
+            reading.pages.push(rule)?;
+            Ok(true)
+        }
+        Some(_) => Ok(false),
+    }
+}
+
+fn close(reading: &mut Reading, head: Head, done: Vec<Statement>) -> Stands
+    ensures { Goes result (drafted reading.new) (draft.close head done.items (drafted reading.old) (drafted reading.old).stack) }
+{
+    match head {
+        Head::Template { name, kind } => put_template(
+            reading,
+            TemplatePart {
+                name,
+                kind,
+                body: Body::of(done),
+            },
+        ),
+        Head::If(field) => put(
+            reading,
+            Statement::If {
+                field,
+                body: Body::of(done),
+            },
+        ),
+        Head::Each { kind, by, order } => put(
+            reading,
+            Statement::Each {
+                kind,
+                by,
+                order,
+                body: Body::of(done),
+            },
+        ),
+        Head::Link { template, via } => put(
+            reading,
+            Statement::Link {
+                template,
+                via,
+                body: Body::of(done),
+            },
+        ),
+    }
+}
+
+#[tactic(auto, using(crate::proofs::Stack::outward_last))]
+fn end(reading: &mut Reading) -> Stands
+    ensures { Goes result (drafted reading.new) (draft.end (drafted reading.old) (drafted reading.old).stack) }
+{
+    match reading.stack.pop() {
+        None => Ok(false),
+        Some(open) => {
+            let Open { head, done } = open;
+            close(reading, head, done)
+        }
+    }
+}
+
+fn open_template(alloc: Global, reading: &mut Reading, head: Head) -> Stands
+    ensures { Goes result (drafted reading.new) (draft.open_template head (drafted reading.old) (drafted reading.old).stack reading.old.pages.items) }
+{
+    if !reading.pages.as_slice().is_empty() {
+        return Ok(false);
+    }
+    open_first(alloc, reading, head)
+}
+
+#[tactic(auto, using(crate::proofs::Stack::outward_last))]
+fn open_first(alloc: Global, reading: &mut Reading, head: Head) -> Stands
+    ensures { Goes result (drafted reading.new) (draft.open_first head (drafted reading.old) (drafted reading.old).stack) }
+{
+    match reading.stack.pop() {
+        None => {
+            let done = Vec::new(alloc);
+            reading.stack.push(Open { head, done })?;
+            Ok(true)
+        }
+        Some(_) => Ok(false),
+    }
+}
+
+#[tactic(auto, using(crate::proofs::Stack::outward_last))]
+fn put_first(reading: &mut Reading, kind: KindPart) -> Stands
+    ensures { Goes result (drafted reading.new) (draft.put_first kind (drafted reading.old) (drafted reading.old).stack) }
+{
+    match reading.stack.pop() {
+        None => {
+            reading.kinds.push(kind)?;
+            Ok(true)
+        }
+        Some(_) => Ok(false),
+    }
+}
+
+fn put_kind(reading: &mut Reading, kind: KindPart) -> Stands
+    ensures { Goes result (drafted reading.new) (draft.put_kind kind (drafted reading.old) (drafted reading.old).stack reading.old.templates.items reading.old.pages.items) }
+{
+    if !reading.templates.as_slice().is_empty() || !reading.pages.as_slice().is_empty() {
+        return Ok(false);
+    }
+    put_first(reading, kind)
+}
+
+fn open_head(alloc: Global, reading: &mut Reading, head: Head) -> Stands
+    ensures { Goes result (drafted reading.new) (draft.open_head head (drafted reading.old)) }
+{
+    match head {
+        Head::Template { name, kind } => {
+            open_template(alloc, reading, Head::Template { name, kind })
+        }
+        Head::If(field) => open_statement(alloc, reading, Head::If(field)),
+        Head::Each { kind, by, order } => {
+            open_statement(alloc, reading, Head::Each { kind, by, order })
+        }
+        Head::Link { template, via } => {
+            open_statement(alloc, reading, Head::Link { template, via })
+        }
+    }
+}
+
+/// Takes one line more; false where it may not stand there.
+pub(crate) fn step(alloc: Global, reading: &mut Reading, line: Line) -> Stands
+    ensures { Goes result (drafted reading.new) (draft.step (drafted reading.old) line) }
+{
+    match line {
+        Line::Blank => Ok(true),
+        Line::Kind { name, fields } => put_kind(reading, KindPart { name, fields }),
+        Line::Page(rule) => put_page(reading, rule),
+        Line::Open(head) => open_head(alloc, reading, head),
+        Line::Say(text) => put(reading, Statement::Say(text)),
+        Line::Nl => put(reading, Statement::Nl),
+        Line::Field(field) => put(reading, Statement::Field(field)),
+        Line::Key => put(reading, Statement::Key),
+        Line::Embed { template, via } => put(reading, Statement::Embed { template, via }),
+        Line::End => end(reading),
+    }
+}

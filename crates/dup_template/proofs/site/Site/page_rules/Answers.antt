@@ -1,0 +1,5 @@
+use Rattle.dup_template.proofs.Facts.{pages-within}
+use Rattle.dup_template.proofs.site.Site.page_rules.Goals as goal
+
+pub returns-clause-within : goal.returns-clause-within
+returns-clause-within c = rw c.items.ensures (pages-within c.self.inside.parts c.self.invariant)

@@ -1,0 +1,5 @@
+use Rattle.dup_template.proofs.Facts.{templates-within}
+use Rattle.dup_template.proofs.site.Site.templates.Goals as goal
+
+pub returns-clause-within : goal.returns-clause-within
+returns-clause-within c = rw c.items.ensures (templates-within c.self.inside.parts c.self.invariant)

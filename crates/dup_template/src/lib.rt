@@ -1,0 +1,22 @@
+//! Sites: kinds, templates and page declarations, and what makes them good.
+//!
+//! `Parts` are what a site text says; `Site::check` makes a `Site` of parts that break no rule.
+//! `path_of` and `obj_of` lead from an object to its page's path and back.
+#![tactic(auto)]
+
+mod bodies;
+mod check;
+mod paths;
+mod plain;
+mod refusal;
+mod site;
+mod statement;
+
+pub use paths::{obj_of, path_of};
+pub use plain::{Plain, Prefix};
+pub use refusal::{SiteRefusal, What};
+pub use site::{KindPart, PageRule, Parts, Site, TemplatePart};
+pub use statement::{Body, Statement};
+
+#[cfg(test)]
+mod tests;

@@ -1,0 +1,124 @@
+ghost use Rattle.std.specs.Prelude.{◌≡◌, ◌≤◌, length, IfOk};
+ghost use Rattle.std.specs.List.{slice_get};
+ghost use Rattle.dup_template.specs.Good as good;
+ghost use Rattle.std.specs.Result.{result_err};
+
+use crate::bodies::bodies_hold;
+use crate::check::{heads_fit, kinds_fit, pages_fit};
+use crate::plain::Prefix;
+use crate::refusal::SiteRefusal;
+use crate::statement::Body;
+use dup_lists::Listed;
+use dup_names::{Name, Path};
+use std::marker::Model;
+
+/// A kind of records: its name, and the names of its fields in order.
+#[derive(Drop)]
+pub struct KindPart {
+    pub name: Name,
+    pub fields: Listed<Name>,
+}
+
+/// A template: its name, the kind that it is of, where it has one, and its statements.
+#[derive(Drop)]
+pub struct TemplatePart {
+    pub name: Name,
+    pub kind: Option<Name>,
+    pub body: Body,
+}
+
+/// A declaration of pages: one page, or a page `PREFIX/KEY` for each row of the template's kind.
+#[derive(Clone, Copy, PartialEq, Eq)]
+pub enum PageRule {
+    Fixed { path: Path, template: Name },
+    Family { prefix: Prefix, template: Name },
+}
+
+/// What a site text says, unchecked.
+#[derive(Drop)]
+pub struct Parts {
+    pub kinds: Listed<KindPart>,
+    pub templates: Listed<TemplatePart>,
+    pub pages: Listed<PageRule>,
+}
+
+/// Parts that break no rule. Contracts see it as those parts.
+#[derive(Drop)]
+pub struct Site {
+    parts: Parts,
+}
+
+impl Model for Site {
+    ghost use Rattle.dup_template.specs.declared.site.Parts.{Parts};
+    ghost use Rattle.dup_template.specs.contracts.statement.Statement as statement;
+    ghost use Rattle.std.specs.Coded.{codes};
+
+    ghost Value = { Parts };
+
+    ghost coded = { Prim.hlevel (codes, statement.the_row.coded) };
+
+    ghost view = { λ s. s.parts };
+
+    ghost use Rattle.dup_template.specs.Good.{IsGood};
+
+    ghost invariant = { λ s. IsGood s.parts };
+}
+
+impl Site {
+    /// The site of these parts, or the first rule that they break, in the order of `site_fault`.
+    /// It takes no memory, so it never answers `NoMemory`. A name is looked up by walking a list
+    /// of at most 256 names.
+    pub fn check(parts: Parts) -> Result<Site, SiteRefusal>
+        ensures value { IfOk result (λ site. site ≡ parts) }
+        ensures fault { result_err result ≡ good.site_fault parts }
+    {
+        kinds_fit(parts.kinds.items())?;
+        heads_fit(parts.kinds.items(), parts.templates.items())?;
+        pages_fit(parts.templates.items(), parts.pages.items())?;
+        bodies_hold(&parts)?;
+        Ok(Site { parts })
+    }
+
+    /// The parts of the site, which break no rule.
+    pub fn parts(&self) -> &Parts
+        ensures value { result.now ≡ self.now }
+        ensures good { good.IsGood result.now }
+    {
+        &self.parts
+    }
+
+    /// The kinds in order; a kind's number is its place, from 0.
+    pub fn kinds(&self) -> &[KindPart]
+        ensures value { result.now ≡ self.now.kinds }
+        ensures within { length result.now ≤ 64 }
+    {
+        self.parts.kinds.items()
+    }
+
+    /// The fields of a kind in order; none where the kind isn't there.
+    pub fn fields(&self, kind: u16) -> &[Name]
+        ensures value { result.now ≡ good.fields_of (slice_get self.now.kinds kind) }
+        ensures within { length result.now ≤ 32 }
+    {
+        match self.parts.kinds.items().get(usize::from(kind)) {
+            None => &[],
+            Some(part) => part.fields.items(),
+        }
+    }
+
+    /// The templates in order; a template's number is its place, from 0.
+    pub fn templates(&self) -> &[TemplatePart]
+        ensures value { result.now ≡ self.now.templates }
+        ensures within { length result.now ≤ 256 }
+    {
+        self.parts.templates.items()
+    }
+
+    /// The declarations of pages in order.
+    pub fn page_rules(&self) -> &[PageRule]
+        ensures value { result.now ≡ self.now.pages }
+        ensures within { length result.now ≤ 256 }
+    {
+        self.parts.pages.items()
+    }
+}
