@@ -44,7 +44,7 @@ abbrev pub IsMade : Option ℕ → ℕ → Type 0
 IsMade None versions = Unit {0}
 IsMade (Some v) versions = v ≤ versions
 
--- the program keeps this session
+-- the program keeps what the script has made so far
 pub record Keeps (s : Session) (r : Kept) : Type 0 where
   pub content : r.content ≡ content r.site.value s.commits
   pub version : r.version ≡ length s.commits
