@@ -77,6 +77,8 @@ fn is_play(words: &[String]) -> bool
 /// - 5: the site text was read whole, and is no good site of the form that can be played.
 /// - 6: want of memory.
 /// - 7: a line of over 262,144 bytes was read, or over 2^30 bytes of input.
+///
+/// A settle costs what rendering each row's page costs; a commit copies the list of the kind's rows; a request is a look-up.
 pub fn desk_main<R: Threads + Sync, S: Source, K: Sink>(
     _rt: &R,
     alloc: Global,
