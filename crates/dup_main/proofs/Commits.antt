@@ -21,10 +21,10 @@ use Rattle.std.proofs.lemmas.Grind.{fold-append}
 use Rattle.dup_model.specs.Content.{start}
 use Rattle.dup_model.specs.Commits.{Commit, Refusal, edited, after, refusal, put_row, put_row_at}
 use Rattle.dup_model.specs.Versions.{content, version}
-use Rattle.dup_main.specs.declared.command.Command.TheVariants as command
+use Rattle.dup_model.specs.declared.command.Command.TheVariants as command
 use Rattle.dup_main.specs.declared.session.Session.{Session as Kept}
 use Rattle.dup_main.specs.Kept.{Acts, IsMade, IsReady, Keeps}
-use Rattle.dup_main.specs.Session.{commit_text, committed, line}
+use Rattle.dup_model.specs.Script.{commit_text, committed, line}
 
 edited_is_of : (site : Parts) (c : Content) (e : Edit) → IsOf site c → IsOf site (edited c e)
 edited_is_of site c (Put name key fields) is = record { frame = is.frame; bodies = is.bodies }

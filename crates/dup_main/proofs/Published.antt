@@ -10,7 +10,7 @@ use Rattle.dup_model.specs.Content.{Content, Table, Entry}
 use Rattle.dup_main.specs.Kept.{plain_look}
 use Rattle.dup_main.specs.Rendering.{row_bytes}
 use Rattle.dup_main.specs.RowPages.{row_object, row_page, row_path}
-use Rattle.dup_main.specs.Session.{Published, published, with_page}
+use Rattle.dup_model.specs.Script.{Published, published, with_page}
 
 pub page_is : (site : Parts) (c : Content) (key path bytes : Word) (o : Obj) → path ≡ row_path site key → o ≡ row_object key → bytes ≡ row_bytes c key
     → (path, plain_look o bytes) ≡ row_page site c key

@@ -16,11 +16,11 @@ use Rattle.dup_model.specs.Commits.{Commit, Refusal, refusal}
 use Rattle.dup_model.specs.Content.{Content}
 use Rattle.dup_model.specs.Editions.{Page}
 use Rattle.dup_model.specs.Versions.{content, version}
-use Rattle.dup_main.specs.declared.command.Command.{Command}
-use Rattle.dup_main.specs.declared.command.Command.TheVariants as command
+use Rattle.dup_model.specs.Commands.{Command}
+use Rattle.dup_model.specs.declared.command.Command.TheVariants as command
 use Rattle.dup_main.specs.Commands.{command_of}
 use Rattle.dup_main.specs.Headline.{EditionsAreRendered, FoundPagesAreRendered, IsRendered, session_after}
-use Rattle.dup_main.specs.Session.{Session, Published, published, with_page, shows, whole_site, after_command, committed, settled, first_session, has_node}
+use Rattle.dup_model.specs.Script.{Session, Published, published, with_page, shows, whole_site, after_command, committed, settled, first_session, has_node}
 use Rattle.dup_main.proofs.Editions.{same_path}
 
 -- a page that was put from a whole site

@@ -7,14 +7,14 @@ use Rattle.dup_io.specs.Reading.{Reading, Whole, Next, GivesLine, IsReading}
 use Rattle.dup_io.specs.declared.lines.LineFault.{LineFault}
 use Rattle.dup_names.specs.Words.{Word}
 use Rattle.dup_template.specs.declared.site.Parts.{Parts}
-use Rattle.dup_main.specs.declared.command.Command.{Command}
+use Rattle.dup_model.specs.Commands.{Command}
 use Rattle.dup_main.specs.declared.session.Session.{Session as Kept}
 use Rattle.dup_main.specs.declared.stop.Stop.{Stop}
 use Rattle.dup_main.specs.declared.stop.Stop.TheVariants as stops
 use Rattle.dup_main.specs.Commands.{command_of}
 use Rattle.dup_main.specs.Kept.{Keeps}
 use Rattle.dup_main.specs.LineStops.{stop_of}
-use Rattle.dup_main.specs.Session.{Session, first_session, after_command, answer}
+use Rattle.dup_model.specs.Script.{Session, first_session, after_command, answer}
 use Rattle.dup_main.specs.Stops.{WritesScript, StopsInScript}
 use Rattle.dup_main.specs.Transcript.{Writes, ending}
 use Rattle.dup_main.proofs.SiteSoFar.{IsDue}

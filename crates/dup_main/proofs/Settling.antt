@@ -18,14 +18,14 @@ use Rattle.dup_model.specs.Touched.{expanded, joined, is_in, without}
 use Rattle.dup_model.specs.Versions.{content, version}
 use Rattle.dup_model.proofs.Histories.{content_of}
 use Rattle.dup_model.proofs.Tables.{versions_rise}
-use Rattle.dup_main.specs.declared.command.Command.TheVariants as command
+use Rattle.dup_model.specs.declared.command.Command.TheVariants as command
 use Rattle.dup_main.specs.declared.edition.Edition.{Edition as KeptEdition}
 use Rattle.dup_main.specs.declared.edition.Rendered.{Rendered}
 use Rattle.dup_main.specs.declared.session.Session.{Session as Kept}
 use Rattle.dup_main.specs.Kept.{Acts, IsReady, KeepsPages, page_of}
 use Rattle.dup_main.specs.RowCounts.{CountsRows, IsSettledOf, renewed_count}
 use Rattle.dup_main.specs.RowPages.{HasRowPages, row_page}
-use Rattle.dup_main.specs.Session.{Published, published, published_by, whole_site, settled_text, target_content, found_text, has_node}
+use Rattle.dup_model.specs.Script.{Published, published, published_by, whole_site, settled_text, target_content, found_text, has_node}
 use Rattle.dup_main.proofs.RowCountLemmas.{rows_counted}
 use Rattle.dup_main.proofs.RowPageLemmas.{row_pages}
 

@@ -8,7 +8,7 @@ use Rattle.dup_io.specs.Reading.{Reading, Whole, Next, LongLine, LongInput, Give
 use Rattle.dup_names.specs.Words.{Word}
 use Rattle.dup_main.specs.declared.stop.Stop.{Stop}
 use Rattle.dup_main.specs.declared.stop.Stop.TheVariants as stops
-use Rattle.dup_main.specs.Session.{line}
+use Rattle.dup_model.specs.Script.{line}
 use Rattle.dup_main.specs.Stops.{IsSiteText, ReadsSite, CountsSite, StopsInSite}
 use Rattle.dup_main.specs.Transcript.{is_end, site_text, site_lines, script, site_is_read, ending, too_long}
 

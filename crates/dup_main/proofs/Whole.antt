@@ -16,7 +16,7 @@ use Rattle.dup_names.specs.Words.{Word, Path, same}
 use Rattle.dup_names.specs.declared.value.Look.{Look}
 use Rattle.dup_feed.specs.Feed.{feed_says}
 use Rattle.dup_feed.specs.declared.refusal.FeedRefusal.{FeedRefusal}
-use Rattle.dup_site.specs.Words.{line_words, trimmed}
+use Rattle.dup_names.specs.LineWords.{line_words, trimmed}
 use Rattle.dup_template.specs.declared.site.Parts.{Parts}
 use Rattle.dup_model.specs.declared.edit.Edit.{Edit}
 use Rattle.dup_model.specs.declared.edit.Edit.TheVariants.{Put, Remove}
@@ -30,14 +30,14 @@ use Rattle.dup_model.specs.Versions.{content}
 use Rattle.dup_model.proofs.Histories.{content_of}
 use Rattle.dup_model.proofs.Sound.{look_same}
 use Rattle.dup_model.proofs.Tables.{versions_rise}
-use Rattle.dup_main.specs.declared.command.Command.{Command}
-use Rattle.dup_main.specs.declared.command.Command.TheVariants as command
-use Rattle.dup_main.specs.Commands.{by_message, by_start, by_words, command_of, commit_command, get_command, is_capacity, is_mode, is_node, is_one_put, message_of, node_command}
+use Rattle.dup_model.specs.Commands.{Command, by_message, by_start, by_words, get_command, is_capacity, is_mode, is_node, is_one_put, message_of, node_command}
+use Rattle.dup_model.specs.declared.command.Command.TheVariants as command
+use Rattle.dup_main.specs.Commands.{command_of, commit_command, message_command}
 use Rattle.dup_main.specs.FirstForm.{is_first_form}
 use Rattle.dup_main.specs.Headline.{SettledEditionsAreWhole, session_after}
-use Rattle.dup_main.specs.Numbers.{number_of}
+use Rattle.dup_model.specs.Numbers.{number_of}
 use Rattle.dup_main.specs.RowPages.{prefix_in, row_page, row_path}
-use Rattle.dup_main.specs.Session.{Session, Published, published, with_page, shows, whole_site, after_command, committed, settled, first_session, has_node}
+use Rattle.dup_model.specs.Script.{Session, Published, published, with_page, shows, whole_site, after_command, committed, settled, first_session, has_node}
 use Rattle.dup_main.proofs.Editions.{same_path}
 use Rattle.dup_main.proofs.Published.{pages_from}
 use Rattle.dup_main.proofs.Rising.{text_cmp_front}
@@ -179,13 +179,13 @@ commit_puts (Ok commit) = by_test (is_one_put commit) refl
     by_test false is = tt
 commit_puts (Err why) = tt
 
-message_puts : (o : Option Word) (text : Word) → IsPutting (by_message o text)
+message_puts : (o : Option Word) (text : Word) → IsPutting (by_message message_command o text)
 message_puts None text = words_put (line_words text)
 message_puts (Some message) text = commit_puts (feed_says message)
 
-start_puts : (text : Word) → IsPutting (by_start text)
+start_puts : (text : Word) → IsPutting (by_start message_command text)
 start_puts [] = tt
-start_puts (b ∷ rest) = either (nat_eq b 35) command.Blank (by_message (message_of (b ∷ rest)) (b ∷ rest)) tt (message_puts (message_of (b ∷ rest)) (b ∷ rest))
+start_puts (b ∷ rest) = either (nat_eq b 35) command.Blank (by_message message_command (message_of (b ∷ rest)) (b ∷ rest)) tt (message_puts (message_of (b ∷ rest)) (b ∷ rest))
 
 module _ (site : Parts) (form : is_first_form site ≡ true) where
   -- each path of the edition is that of a row of the last version

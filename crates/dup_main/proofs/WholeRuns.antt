@@ -11,7 +11,7 @@ use Rattle.dup_template.specs.declared.site.Parts.{Parts}
 use Rattle.dup_main.specs.declared.stop.Stop.{Stop}
 use Rattle.dup_main.specs.declared.stop.Stop.TheVariants as stops
 use Rattle.dup_main.specs.FirstForm.{site_of}
-use Rattle.dup_main.specs.Session.{first_session}
+use Rattle.dup_model.specs.Script.{first_session}
 use Rattle.dup_main.specs.Stops.{IsSiteText, ReadsSite, CountsSite, StopsInSite, WritesScript, StopsInScript, StopsAt, BarsSite, stop_text}
 use Rattle.dup_main.specs.Transcript.{Writes, Plays, PlaysRead, PlaysSite, WritesTranscript, ending, site_text, site_lines, site_is_read, script, site_ok, bad_site, too_long}
 

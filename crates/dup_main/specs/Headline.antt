@@ -9,8 +9,8 @@ use Rattle.dup_model.specs.Pages.{target}
 use Rattle.dup_model.specs.Versions.{content, version}
 use Rattle.dup_main.specs.Commands.{command_of}
 use Rattle.dup_main.specs.FirstForm.{is_first_form}
-use Rattle.dup_main.specs.declared.command.Command.TheVariants.{Settle}
-use Rattle.dup_main.specs.Session.{Session, Published, after_command, published, first_session, found_text, get_text, has_node, whole_site}
+use Rattle.dup_model.specs.declared.command.Command.TheVariants.{Settle}
+use Rattle.dup_model.specs.Script.{Session, Published, after_command, published, first_session, found_text, get_text, has_node, whole_site}
 
 -- the session after the lines of a script
 abbrev pub session_after : Parts → List Word → Session

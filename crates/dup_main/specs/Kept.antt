@@ -13,8 +13,8 @@ use Rattle.dup_model.specs.Editions.{Page}
 use Rattle.dup_model.specs.Content.{IsOf, table}
 use Rattle.dup_main.specs.FirstForm.{is_first_form}
 use Rattle.dup_main.specs.RowCounts.{IsSimple}
-use Rattle.dup_main.specs.Session.{Session, Published, target_content, after_command, answer}
-use Rattle.dup_main.specs.declared.command.Command.{Command}
+use Rattle.dup_model.specs.Script.{Session, Published, target_content, after_command, answer}
+use Rattle.dup_model.specs.Commands.{Command}
 use Rattle.dup_main.specs.declared.edition.Edition.{Edition as KeptEdition}
 use Rattle.dup_main.specs.declared.edition.Rendered.{Rendered}
 use Rattle.dup_main.specs.declared.session.Session.{Session as Kept}

@@ -2,8 +2,6 @@ pub mod Commands
 pub mod FirstForm
 pub mod Kept
 pub mod LineStops
-pub mod Numbers
-pub mod Session
 pub mod Stops
 pub mod Transcript
 pub mod Rendering

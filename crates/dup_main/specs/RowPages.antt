@@ -12,7 +12,7 @@ use Rattle.dup_model.specs.Tables.{TablesRise}
 use Rattle.dup_main.specs.FirstForm.{is_first_form}
 use Rattle.dup_main.specs.Kept.{plain_look}
 use Rattle.dup_main.specs.Rendering.{row_bytes}
-use Rattle.dup_main.specs.Session.{whole_site}
+use Rattle.dup_model.specs.Script.{whole_site}
 
 -- the object of a row's page
 abbrev pub row_object : Word → Obj

@@ -6,7 +6,7 @@ use Rattle.dup_names.specs.Words.{Word}
 use Rattle.dup_template.specs.declared.site.Parts.{Parts}
 use Rattle.dup_main.specs.declared.stop.Stop.{Stop}
 use Rattle.dup_main.specs.declared.stop.Stop.TheVariants.{ReadFault, WriteFault, BadSite, NoMemory, LineTooLong, InputTooLong}
-use Rattle.dup_main.specs.Session.{first_session}
+use Rattle.dup_model.specs.Script.{first_session}
 use Rattle.dup_main.specs.Transcript.{Writes, Plays, bad_site, too_long_line, too_long_input, too_long, site_text, site_lines, site_is_read, script, ending}
 
 -- a line or the input that is too long stands in the reading

@@ -7,8 +7,10 @@ use Rattle.dup_io.specs.Reading.{Reading, Whole, Next, LongLine, LongInput, read
 use Rattle.dup_names.specs.Words.{Word, same}
 use Rattle.dup_template.specs.declared.site.Parts.{Parts}
 use Rattle.dup_main.specs.Commands.{command_of}
+use Rattle.dup_model.specs.Commands.{Command}
+use Rattle.dup_model.specs.Transcript.{Answers}
 use Rattle.dup_main.specs.FirstForm.{site_of}
-use Rattle.dup_main.specs.Session.{Session, first_session, after_command, answer, line}
+use Rattle.dup_model.specs.Script.{Session, first_session, line}
 
 abbrev pub usage : Word
 usage = line (codes "usage: dup_top play | check | render | games N | serve PORT NODES CAPACITY MODE WORKERS")
@@ -56,15 +58,6 @@ site_is_read (Next text rest) = if is_end text then true else site_is_read rest
 site_is_read (LongLine number) = false
 site_is_read LongInput = false
 
--- what may be written for a script, behind a session and so many lines
-abbrev pub Writes : Parts → Session → ℕ → Reading → Word → Type 0
-Writes site s number Whole out = out ≡ []
-Writes site s number (Next text rest) out =
-    (more : Word) × (out ≡ answer site s (number + 1) (command_of text) ++ more)
-    × Writes site (after_command site s (command_of text)) (number + 1) rest more
-Writes site s number (LongLine n) out = out ≡ too_long_line n
-Writes site s number LongInput out = out ≡ too_long_input
-
 -- the status where nothing fails: 7 where a line or the input is too long
 abbrev pub ending : Reading → ℕ
 ending Whole = 0
@@ -78,6 +71,15 @@ too_long Whole = []
 too_long (Next text rest) = too_long rest
 too_long (LongLine number) = too_long_line number
 too_long LongInput = too_long_input
+
+-- the commands of the lines that are read
+abbrev pub commands : Reading → List Command
+commands (Next text rest) = command_of text ∷ commands rest
+commands _ = []
+
+-- what may be written for a script, behind a session and so many lines: the answers to its commands, and what is too long
+abbrev pub Writes : Parts → Session → ℕ → Reading → Word → Type 0
+Writes site s number input out = Answers site s number (commands input) (too_long input) out
 
 -- a site: `site ok`, and then the answers to the script
 abbrev pub PlaysSite : Option Parts → Reading → ℕ → Word → Type 0

@@ -2,31 +2,20 @@ ghost use Rattle.std.specs.Prelude.{◌≡◌, IfOk, IsTrue, length};
 ghost use Rattle.std.specs.List.{list_all};
 ghost use Rattle.std.specs.Option.{option_copied};
 ghost use Rattle.dup_feed.specs.Feed.{feed_says};
-ghost use Rattle.dup_site.specs.Words.{is_space};
+ghost use Rattle.dup_names.specs.LineWords.{is_space};
 ghost use Rattle.dup_template.specs.Good.{behind};
 ghost use Rattle.dup_names.specs.Words.{same};
-ghost use Rattle.dup_main.specs.Commands.{by_message, by_start, by_words, command_of, commit_command, four_words, get_command, if_more, is_mode, is_one_put, is_put, message_of, node_command, one_word, seen};
-ghost use Rattle.dup_main.specs.Commands.{HasOneChange};
-ghost use Rattle.dup_main.specs.Numbers.{number_of};
+ghost use Rattle.dup_main.specs.Commands.{command_of, commit_command, message_command, seen};
+ghost use Rattle.dup_model.specs.Commands.{HasOneChange, by_message, by_start, by_words, four_words, get_command, if_more, is_mode, is_one_put, is_put, message_of, node_command, of_commit, one_word};
+ghost use Rattle.dup_model.specs.Numbers.{number_of};
 
 use crate::number::read_number;
 use dup_feed::{FeedRefusal, read_commit};
-use dup_model::Edit;
+use dup_model::{Command, Edit};
 use dup_names::{NoMemory, Path};
 use dup_records::{Change, Commit};
 use dup_site::{trimmed, words_of};
 use std::alloc::Global;
-
-/// What a line of a script asks.
-#[derive(Drop)]
-pub(crate) enum Command {
-    Blank,
-    Commit(Commit),
-    Settle,
-    Node(u16),
-    Get { node: u16, pass: u64, path: Path },
-    NotBuilt,
-}
 
 fn is_word(word: &[u8], wanted: &[u8]) -> bool
     ensures { result ≡ same word.now wanted.now }
@@ -40,7 +29,7 @@ fn is_mode(word: &[u8]) -> bool
     is_word(word, b"update") || is_word(word, b"invalidate")
 }
 
-fn node_command(node: &[u8], capacity: &[u8], mode: &[u8]) -> Command
+fn node_command(node: &[u8], capacity: &[u8], mode: &[u8]) -> Command<Commit>
     ensures command { result ≡ node_command (number_of node.now) (number_of capacity.now) mode.now }
     ensures one { HasOneChange result }
 {
@@ -50,7 +39,7 @@ fn node_command(node: &[u8], capacity: &[u8], mode: &[u8]) -> Command
     }
 }
 
-fn get_command(node: &[u8], pass: &[u8], path: &[u8]) -> Command
+fn get_command(node: &[u8], pass: &[u8], path: &[u8]) -> Command<Commit>
     ensures command { result ≡ get_command (number_of node.now) (number_of pass.now) path.now }
     ensures one { HasOneChange result }
 {
@@ -64,7 +53,7 @@ fn get_command(node: &[u8], pass: &[u8], path: &[u8]) -> Command
     }
 }
 
-fn one_word(word: &[u8]) -> Command
+fn one_word(word: &[u8]) -> Command<Commit>
     ensures command { result ≡ one_word word.now }
     ensures one { HasOneChange result }
 {
@@ -75,7 +64,7 @@ fn one_word(word: &[u8]) -> Command
     }
 }
 
-fn four_words(word: &[u8], a: &[u8], b: &[u8], c: &[u8]) -> Command
+fn four_words(word: &[u8], a: &[u8], b: &[u8], c: &[u8]) -> Command<Commit>
     ensures command { result ≡ four_words word.now a.now b.now c.now }
     ensures one { HasOneChange result }
 {
@@ -89,7 +78,7 @@ fn four_words(word: &[u8], a: &[u8], b: &[u8], c: &[u8]) -> Command
 }
 
 #[tactic(auto, using(crate::proofs::WordLemmas::by_number))]
-fn by_words(words: &[&[u8]]) -> Command
+fn by_words(words: &[&[u8]]) -> Command<Commit>
     ensures command { result ≡ by_words (seen words.now) }
     ensures one { HasOneChange result }
 {
@@ -124,8 +113,8 @@ fn is_one_put(commit: &Commit) -> bool
     }
 }
 
-fn commit_command(alloc: Global, message: &[u8]) -> Result<Command, NoMemory>
-    ensures command { IfOk result (λ command. command ≡ commit_command (feed_says message.now)) }
+fn commit_command(alloc: Global, message: &[u8]) -> Result<Command<Commit>, NoMemory>
+    ensures command { IfOk result (λ command. command ≡ message_command message.now) }
     ensures one { IfOk result HasOneChange }
 {
     match read_commit(alloc, message) {
@@ -156,8 +145,8 @@ fn message_of(text: &[u8]) -> Option<&[u8]>
     }
 }
 
-fn by_start(alloc: Global, text: &[u8]) -> Result<Command, NoMemory>
-    ensures command { IfOk result (λ command. command ≡ by_start text.now) }
+fn by_start(alloc: Global, text: &[u8]) -> Result<Command<Commit>, NoMemory>
+    ensures command { IfOk result (λ command. command ≡ by_start message_command text.now) }
     ensures one { IfOk result HasOneChange }
 {
     match text {
@@ -173,7 +162,7 @@ fn by_start(alloc: Global, text: &[u8]) -> Result<Command, NoMemory>
 }
 
 /// The command of a line.
-pub(crate) fn read_command(alloc: Global, text: &[u8]) -> Result<Command, NoMemory>
+pub(crate) fn read_command(alloc: Global, text: &[u8]) -> Result<Command<Commit>, NoMemory>
     ensures command { IfOk result (λ command. command ≡ command_of text.now) }
     ensures one { IfOk result HasOneChange }
 {

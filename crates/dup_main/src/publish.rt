@@ -3,7 +3,7 @@ ghost use Rattle.dup_model.specs.Content.{IsOf, keys, table};
 ghost use Rattle.dup_main.specs.FirstForm.{is_first_form};
 ghost use Rattle.dup_main.specs.Kept.{KeepsPages};
 ghost use Rattle.dup_main.specs.RowPages.{row_object, row_page, row_path};
-ghost use Rattle.dup_main.specs.Session.{Published, published};
+ghost use Rattle.dup_model.specs.Script.{Published, published, with_page};
 
 use crate::edition::{Edition, Rendered};
 use crate::render::render;
@@ -29,7 +29,30 @@ fn row_path(site: &Site, key: &Key) -> Path
     path_of(site, &row_object(key)).unwrap()
 }
 
-/// Renders the page of each row from scratch, and publishes those that the edition has otherwise or lacks.
+/// Renders the page of a row from scratch, and publishes it where the edition has another or lacks it.
+fn publish_row(
+    alloc: Global,
+    site: &Site,
+    content: &Content,
+    version: u64,
+    key: &Key,
+    edition: &mut Edition,
+) -> Result<(), NoMemory>
+    requires form { is_first_form site.now ≡ true }
+    requires content { IsOf site.now content.now }
+    requires number { edition.old.number < 2 ^ 63 }
+    ensures published { OnOk result ((p : Published) → KeepsPages p edition.old → KeepsPages (with_page version p (row_page site.now content.now key.now)) edition.new) }
+    ensures grows { (edition.old.number ≤ edition.new.number) × (edition.new.number ≤ edition.old.number + 1) }
+{
+    let page = Rendered {
+        obj: row_object(key),
+        version,
+        bytes: render(alloc, content, key)?,
+    };
+    edition.publish(row_path(site, key), page)
+}
+
+/// Publishes the pages of the rows, in the order of their keys.
 pub(crate) fn publish_rows(
     alloc: Global,
     site: &Site,
@@ -44,12 +67,7 @@ pub(crate) fn publish_rows(
     ensures grows { (edition.old.number ≤ edition.new.number) × (edition.new.number ≤ edition.old.number + length (table content.now 0)) }
 {
     for row in content.rows(0) {
-        let page = Rendered {
-            obj: row_object(&row.0),
-            version,
-            bytes: render(alloc, content, &row.0)?,
-        };
-        edition.publish(row_path(site, &row.0), page)?;
+        publish_row(alloc, site, content, version, &row.0, edition)?;
     }
     Ok(())
 }

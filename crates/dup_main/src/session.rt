@@ -2,7 +2,6 @@ ghost use Rattle.std.specs.Prelude.{◌≡◌, ◌≤◌, ◌+◌, ◌^◌, ◌<
 ghost use Rattle.std.specs.List.{list_any};
 ghost use Rattle.dup_main.specs.FirstForm.{is_first_form};
 
-use crate::command::Command;
 use crate::counts::renewed_count;
 use crate::edition::Edition;
 use crate::publish::publish_rows;
@@ -10,6 +9,7 @@ use crate::texts::{
     absent_text, ahead_text, committed_text, found_text, no_node_text, node_text, not_built,
     refusal_text, settled_text,
 };
+use dup_model::Command;
 use dup_names::{NoMemory, Path};
 use dup_records::{Commit, CommitRefusal, Content, apply};
 use dup_template::Site;
@@ -43,9 +43,9 @@ fn has_node(nodes: &[u16], node: u16) -> bool
 
 impl Session {
     ghost use Rattle.dup_main.specs.Kept.{Acts, IsReady, Keeps};
-    ghost use Rattle.dup_main.specs.Commands.{HasOneChange};
-    ghost use Rattle.dup_main.specs.Session.{Session as Sessions, after_command, answer, first_session};
-    ghost use Rattle.dup_main.specs.declared.command.Command.TheVariants as command;
+    ghost use Rattle.dup_model.specs.Commands.{HasOneChange};
+    ghost use Rattle.dup_model.specs.Script.{Session as Sessions, after_command, answer, first_session};
+    ghost use Rattle.dup_model.specs.declared.command.Command.TheVariants as command;
 
     /// The session before any command.
     pub(crate) fn new(alloc: Global, site: Site) -> Result<Session, NoMemory>
@@ -158,7 +158,7 @@ impl Session {
         &mut self,
         alloc: Global,
         number: u64,
-        command: Command,
+        command: Command<Commit>,
     ) -> Result<Vec<u8>, NoMemory>
         requires ready { IsReady self.old }
         requires one { HasOneChange command }

@@ -5,7 +5,7 @@ ghost use Rattle.std.specs.Io.KnownBytes.{IsAtEnd};
 ghost use Rattle.dup_io.specs.Causes.{Rose};
 ghost use Rattle.dup_io.specs.Lines.{to_read, source_of, reference_of, number_of, fault_of};
 ghost use Rattle.dup_names.specs.Words.{same};
-ghost use Rattle.dup_main.specs.Session.{line as line_text};
+ghost use Rattle.dup_model.specs.Script.{line as line_text};
 ghost use Rattle.dup_main.specs.Stops.{CountsSite, ReadsSite, StopsInSite};
 ghost use Rattle.dup_main.specs.Transcript.{is_end};
 

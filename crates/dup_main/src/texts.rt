@@ -3,7 +3,7 @@ ghost use Rattle.std.specs.Fmt.{decimal};
 ghost use Rattle.dup_model.specs.Commits.{Refusal};
 ghost use Rattle.dup_records.specs.Refusals.{Names};
 ghost use Rattle.dup_main.specs.Kept.{page_of};
-ghost use Rattle.dup_main.specs.Session.{found_text, line, refusal_text, settled_text};
+ghost use Rattle.dup_model.specs.Script.{found_text, line, refusal_text, settled_text};
 
 use crate::edition::Rendered;
 use dup_names::NoMemory;

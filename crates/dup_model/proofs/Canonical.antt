@@ -62,7 +62,7 @@ module _ {X : Type 0} (cmp : X → X → Ordering) (total : IsTotalOrder cmp) (t
     | inr later ↦ less_of y x zs all.1 later
   ]
 
-  not_both : (x y : X) → cmp x y ≡ Less → cmp y x ≡ Less → ⊥
+  pub not_both : (x y : X) → cmp x y ≡ Less → cmp y x ≡ Less → ⊥
   not_both x y h k = less_greater (sym h ∙ total.antisymm x y ∙ ap ordering_reverse k)
 
   not_below : (x : X) (xs : List X) → Below x xs → member x xs ≡ false

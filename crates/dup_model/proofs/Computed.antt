@@ -12,7 +12,7 @@ use Rattle.dup_model.specs.Content.{Content}
 use Rattle.dup_model.specs.Looks.{look}
 use Rattle.dup_model.specs.Pages.{Target, pages, target}
 use Rattle.dup_model.specs.Needs.{Looks, needs, changed}
-use Rattle.dup_model.specs.Editions.{Page, Edition, Bundle, looks, bundle_of}
+use Rattle.dup_model.specs.Editions.{Page, Edition, Bundle, looks, edition, bundle_of}
 use Rattle.dup_model.specs.Bundles.{bundle, bundle_from, paths_of}
 
 no_length : {A : Type 0} (es : List A) → length es ≡ 0 → es ≡ []
@@ -83,3 +83,13 @@ module _ (t : Target) (ts : List (Path × Look)) (t_is : fin.entries t ≡ ts) w
     bundle_listed i =
         bundle_from (needs (λ p. edition_looks p i) (λ p. target_gets p i))
         (filter (changed (λ p. edition_looks p i) (λ p. target_gets p i)) (all_paths i))
+
+-- the entries of an edition behind a bundle that puts one page
+pub entries_with : (log : List Bundle) (b listed : Bundle) (path : Path) (page : Page) (es : List (Path × Page)) →
+    b ≡ listed → edition (log ++ listed ∷ []) ≡ fin.insert (edition log) path page → fin.entries (edition log) ≡ es →
+    fin.entries (edition (log ++ b ∷ [])) ≡ fin.put text_cmp path page es
+entries_with log b listed path page es is puts before =
+    ap (λ c. fin.entries (edition (log ++ c ∷ []))) is
+    ∙ ap fin.entries puts
+    ∙ fin.entries-insert nat_list_cmp_total (edition log) path page
+    ∙ ap (fin.put text_cmp path page) before

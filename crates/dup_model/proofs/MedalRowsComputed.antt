@@ -2,14 +2,12 @@
 use Rattle.std.proofs.Common.{◌≡◌, List, [], ◌∷◌, refl, ap, ◌∙◌}
 use Rattle.std.specs.Prelude.{codes}
 use Rattle.std.specs.FinMap as fin
-use Rattle.std.specs.Cmp.Lexicographic.{nat_list_cmp_total}
-use Rattle.dup_names.specs.Order.{text_cmp}
 use Rattle.dup_names.specs.Words.{Path}
 use Rattle.dup_names.specs.declared.value.Look.{Look}
 use Rattle.dup_model.specs.Versions.{content}
 use Rattle.dup_model.specs.Editions.{Page, edition}
 use Rattle.dup_model.specs.MedalRows.{medal_site, home_path, athlete_path, home_look, athlete_look, first, second, first_target, second_target, home_bundle, athlete_bundle, shared_bundle, SharedFragmentRow}
-use Rattle.dup_model.proofs.Computed.{entries_target, listed_target, entries_empty, bundle_listed, bundle_of_listed, listed_bundle_of}
+use Rattle.dup_model.proofs.Computed.{entries_target, listed_target, entries_empty, bundle_listed, bundle_of_listed, listed_bundle_of, entries_with}
 use Rattle.dup_model.proofs.Equations.{marks-Say, marks-Field, marks-Each, marks-Embed}
 
 abbrev Looked : Type 0
@@ -49,19 +47,14 @@ abbrev athlete_entry : Page
 athlete_entry = record { path = athlete_path; version = 1; look = athlete_look (codes "[1]") (codes "Ann[1]") }
 
 one_entry : fin.entries (edition (home_bundle ∷ [])) ≡ (home_path, home_entry) ∷ []
-one_entry =
-    ap (λ b. fin.entries (edition (b ∷ []))) home_is
-    ∙ fin.entries-insert nat_list_cmp_total fin.empty home_path home_entry
-    ∙ ap (fin.put text_cmp home_path home_entry) (entries_empty Page)
+one_entry = entries_with [] home_bundle (listed_bundle_of first_list 1 (first ∷ []) (home_path ∷ [])) home_path home_entry [] home_is refl (entries_empty Page)
 
 abbrev two_list : List (Path × Page)
 two_list = (home_path, home_entry) ∷ ((athlete_path, athlete_entry) ∷ [])
 
 two_entries : fin.entries (edition (home_bundle ∷ (athlete_bundle ∷ []))) ≡ two_list
 two_entries =
-    ap (λ b. fin.entries (edition (home_bundle ∷ (b ∷ [])))) athlete_is
-    ∙ fin.entries-insert nat_list_cmp_total (edition (home_bundle ∷ [])) athlete_path athlete_entry
-    ∙ ap (fin.put text_cmp athlete_path athlete_entry) one_entry
+    entries_with (home_bundle ∷ []) athlete_bundle (listed_bundle_of first_list 1 [] (athlete_path ∷ [])) athlete_path athlete_entry ((home_path, home_entry) ∷ []) athlete_is refl one_entry
 
 pub shared_fragment : SharedFragmentRow
 shared_fragment = record {

@@ -2,14 +2,12 @@
 use Rattle.std.proofs.Common.{◌≡◌, List, [], ◌∷◌, refl, ap, ◌∙◌}
 use Rattle.std.specs.Prelude.{codes}
 use Rattle.std.specs.FinMap as fin
-use Rattle.std.specs.Cmp.Lexicographic.{nat_list_cmp_total}
-use Rattle.dup_names.specs.Order.{text_cmp}
 use Rattle.dup_names.specs.Words.{Path}
 use Rattle.dup_names.specs.declared.value.Look.{Look}
 use Rattle.dup_model.specs.Versions.{content}
 use Rattle.dup_model.specs.Editions.{Page, edition}
 use Rattle.dup_model.specs.NextRows.{chain, page_one, page_two, target_of, look_of, one_first, then_two, one_alone, LinkNeedsPageRow, both, one_goes, linked_page, linking_page, last_bundle, LinkerChangesRow}
-use Rattle.dup_model.proofs.Computed.{entries_target, listed_target, entries_empty, bundle_listed, bundle_of_listed, listed_bundle_of}
+use Rattle.dup_model.proofs.Computed.{entries_target, listed_target, entries_empty, bundle_listed, bundle_of_listed, listed_bundle_of, entries_with}
 use Rattle.dup_model.proofs.Equations.{marks-Say, marks-Field, marks-Link-via}
 
 abbrev Looked : Type 0
@@ -40,10 +38,7 @@ one_alone_is : one_alone ≡ listed_bundle_of ((page_one, look_one) ∷ []) 1 (o
 one_alone_is = bundle_of_listed (target_of (one_first ∷ [])) ((page_one, look_one) ∷ []) first_target 1 (one_first ∷ []) (page_one ∷ [])
 
 first_edition : fin.entries (edition (one_alone ∷ [])) ≡ (page_one, one_page) ∷ []
-first_edition =
-    ap (λ b. fin.entries (edition (b ∷ []))) one_alone_is
-    ∙ fin.entries-insert nat_list_cmp_total fin.empty page_one one_page
-    ∙ ap (fin.put text_cmp page_one one_page) (entries_empty Page)
+first_edition = entries_with [] one_alone (listed_bundle_of ((page_one, look_one) ∷ []) 1 (one_first ∷ []) (page_one ∷ [])) page_one one_page [] one_alone_is refl (entries_empty Page)
 
 pub link_needs_page : LinkNeedsPageRow
 link_needs_page = record {
@@ -93,19 +88,14 @@ abbrev linking_entry : Page
 linking_entry = record { path = page_two; version = 1; look = linking_look }
 
 one_entry : fin.entries (edition (linked_page ∷ [])) ≡ (page_one, linked_entry) ∷ []
-one_entry =
-    ap (λ b. fin.entries (edition (b ∷ []))) linked_is
-    ∙ fin.entries-insert nat_list_cmp_total fin.empty page_one linked_entry
-    ∙ ap (fin.put text_cmp page_one linked_entry) (entries_empty Page)
+one_entry = entries_with [] linked_page (listed_bundle_of both_list 1 (both ∷ []) (page_one ∷ [])) page_one linked_entry [] linked_is refl (entries_empty Page)
 
 abbrev two_list : List (Path × Page)
 two_list = (page_one, linked_entry) ∷ ((page_two, linking_entry) ∷ [])
 
 two_entries : fin.entries (edition (linked_page ∷ (linking_page ∷ []))) ≡ two_list
 two_entries =
-    ap (λ b. fin.entries (edition (linked_page ∷ (b ∷ [])))) linking_is
-    ∙ fin.entries-insert nat_list_cmp_total (edition (linked_page ∷ [])) page_two linking_entry
-    ∙ ap (fin.put text_cmp page_two linking_entry) one_entry
+    entries_with (linked_page ∷ []) linking_page (listed_bundle_of both_list 1 [] (page_two ∷ [])) page_two linking_entry ((page_one, linked_entry) ∷ []) linking_is refl one_entry
 
 pub linker_changes : LinkerChangesRow
 linker_changes = record {

@@ -2,21 +2,21 @@
 use Rattle.std.proofs.Common.{◌≡◌, suc, ◌+◌, ◌⊎◌, inl, inr, Bool, true, false, not, cond, ◌||◌, ◌&&◌, List, [], ◌∷◌, length, refl, sym, ap, subst, ◌∙◌, arith}
 use Rattle.std.specs.Prelude.{Option, Some, None}
 use Rattle.std.specs.Option.{option_cmp}
-use Rattle.std.specs.List.{filter, AllByRecursion}
-use Rattle.std.specs.Ordering.{nat_cmp, ordering_then, ordering_reverse}
-use Rattle.std.specs.declared.cmp.Ordering.{Ordering}
-use Rattle.std.specs.declared.cmp.Ordering.TheVariants.{Less, Equal, Greater}
+use Rattle.std.specs.List.{filter}
+use Rattle.std.specs.Ordering.{nat_cmp, ordering_then}
+use Rattle.std.specs.declared.cmp.Ordering.TheVariants.{Less}
 use Rattle.std.specs.Cmp.{IsTotalOrder, nat_cmp_total}
 use Rattle.std.specs.Cmp.Lexicographic.{nat_list_cmp_total, options_total}
 use Rattle.std.proofs.lemmas.Cmp.{then_total, on_total}
 use Rattle.std.proofs.lemmas.Bool.{true≢false, cases_Bool, or_cases, or_left}
 use Rattle.dup_names.specs.Order.{text_cmp, key_cmp, obj_cmp}
 use Rattle.dup_names.specs.declared.object.Obj.{Obj}
-use Rattle.dup_names.specs.Words.{Word, put, put_at, in_order}
+use Rattle.dup_names.specs.Words.{Word, in_order}
 use Rattle.dup_model.specs.Touched.{same_obj, is_in, without}
 use Rattle.dup_model.proofs.Sound.{obj_same}
 use Rattle.dup_model.proofs.Reached.{or_right}
-use Rattle.dup_model.proofs.Earlier.{obj_itself}
+use Rattle.dup_model.proofs.Earlier.{obj_itself, obj_tied}
+use Rattle.dup_model.proofs.Canonical.{Below, Rises, rises_in_order, not_both}
 
 key_is : (a b : Option Word) → option_cmp text_cmp a b ≡ key_cmp a b
 key_is None None = refl
@@ -28,68 +28,26 @@ pub obj_total : IsTotalOrder obj_cmp
 obj_total = subst IsTotalOrder (λ i a b. ordering_then (nat_cmp a.template b.template) (key_is a.key b.key i))
     (then_total (on_total (λ o. o.template) nat_cmp_total) (on_total (λ o. o.key) (options_total nat_list_cmp_total)))
 
--- rising objects
-
-abbrev Below : Obj → List Obj → Type 0
-Below x ys = AllByRecursion (λ y. obj_cmp x y ≡ Less) ys
-
-abbrev Rises : List Obj → Type 0
-Rises [] = Unit {0}
-Rises (x ∷ xs) = Below x xs × Rises xs
-
-below_more : (x y : Obj) (ys : List Obj) → obj_cmp x y ≡ Less → Below y ys → Below x ys
-below_more x y [] h all = tt
-below_more x y (z ∷ zs) h all = (obj_total.trans x y z h all.0, below_more x y zs h all.1)
-
-reversed : (x y : Obj) → obj_cmp x y ≡ Greater → obj_cmp y x ≡ Less
-reversed x y h = obj_total.antisymm y x ∙ ap ordering_reverse h
-
-below_put_at : (r : Ordering) (z x y : Obj) (ys rest : List Obj) → obj_cmp z x ≡ Less → Below z (y ∷ ys) → Below z rest → Below z (put_at r x y ys rest)
-below_put_at Less z x y ys rest h all more = (h, all)
-below_put_at Equal z x y ys rest h all more = all
-below_put_at Greater z x y ys rest h all more = (all.0, more)
-
-below_put : (z x : Obj) (ys : List Obj) → obj_cmp z x ≡ Less → Below z ys → Below z (put obj_cmp x ys)
-below_put z x [] h all = (h, tt)
-below_put z x (y ∷ ys) h all = below_put_at (obj_cmp x y) z x y ys (put obj_cmp x ys) h all (below_put z x ys h all.1)
-
-rises_put_at : (r : Ordering) (x y : Obj) (ys rest : List Obj) → obj_cmp x y ≡ r → Rises (y ∷ ys) → Rises rest → (obj_cmp y x ≡ Less → Below y rest) → Rises (put_at r x y ys rest)
-rises_put_at Less x y ys rest is h more below = ((is, below_more x y ys is h.0), h)
-rises_put_at Equal x y ys rest is h more below = h
-rises_put_at Greater x y ys rest is h more below = (below (reversed x y is), more)
-
-rises_put : (x : Obj) (ys : List Obj) → Rises ys → Rises (put obj_cmp x ys)
-rises_put x [] h = (tt, tt)
-rises_put x (y ∷ ys) h = rises_put_at (obj_cmp x y) x y ys (put obj_cmp x ys) refl h (rises_put x ys h.1) (λ less. below_put y x ys less h.0)
-
-rises_in_order : (os : List Obj) → Rises (in_order obj_cmp os)
-rises_in_order [] = tt
-rises_in_order (o ∷ os) = rises_put o (in_order obj_cmp os) (rises_in_order os)
-
 -- no object stands twice
 abbrev pub IsOnce : List Obj → Type 0
 IsOnce [] = Unit {0}
 IsOnce (o ∷ os) = (is_in os o ≡ false) × IsOnce os
 
-not_itself : (o : Obj) → obj_cmp o o ≡ Less → ⊥
-not_itself o h = less_greater (sym h ∙ obj_total.antisymm o o ∙ ap ordering_reverse h)
-  where
-    less_greater : Less ≡ Greater → ⊥
-    less_greater is = cc
-
-no_in_below : (o : Obj) (os : List Obj) → Below o os → is_in os o ≡ false
+no_in_below : (o : Obj) (os : List Obj) → Below obj_cmp obj_total obj_tied o os → is_in os o ≡ false
 no_in_below o [] all = refl
 no_in_below o (x ∷ xs) all = elim (cases_Bool (same_obj o x)) [
-  | inl tied ↦ absurd (not_itself o (ap (obj_cmp o) (obj_same o x tied) ∙ all.0))
+  | inl tied ↦
+      let less : obj_cmp o o ≡ Less = ap (obj_cmp o) (obj_same o x tied) ∙ all.0 in
+      absurd (not_both obj_cmp obj_total obj_tied o o less less)
   | inr apart ↦ rw apart (no_in_below o xs all.1)
 ]
 
-once_rises : (os : List Obj) → Rises os → IsOnce os
+once_rises : (os : List Obj) → Rises obj_cmp obj_total obj_tied os → IsOnce os
 once_rises [] h = tt
 once_rises (o ∷ os) h = (no_in_below o os h.0, once_rises os h.1)
 
 pub once_in_order : (os : List Obj) → IsOnce (in_order obj_cmp os)
-once_in_order os = once_rises (in_order obj_cmp os) (rises_in_order os)
+once_in_order os = once_rises (in_order obj_cmp os) (rises_in_order obj_cmp obj_total obj_tied os)
 
 -- objects that pass a test
 

@@ -18,7 +18,7 @@ use Rattle.dup_model.specs.Commits.{Commit, put_row, put_row_at, edited, after}
 use Rattle.dup_model.specs.Content.{start}
 use Rattle.dup_model.specs.Tables.{IsBelow, IsRising, TablesRise, VersionsRise, VersionsHaveTables}
 
-below_more : (k l : Word) (es : Table) → text_cmp k l ≡ Less → IsBelow l es → IsBelow k es
+pub below_more : (k l : Word) (es : Table) → text_cmp k l ≡ Less → IsBelow l es → IsBelow k es
 below_more k l [] h all = tt
 below_more k l (e ∷ es) h all = (nat_list_cmp_total.trans k l e.0 h all.0, below_more k l es h all.1)
 
@@ -31,12 +31,15 @@ below_put : (k : Word) (new : Entry) (es : Table) → text_cmp k new.0 ≡ Less 
 below_put k new [] h all = (h, tt)
 below_put k new (e ∷ es) h all = below_put_at (text_cmp new.0 e.0) k new e es (put_row new es) h all (below_put k new es h all.1)
 
+pub equal_is : (a b : Word) → text_cmp a b ≡ Equal → a ≡ b
+equal_is a b is = fin.slice_cmp-IsAntisymmetric fin.nat_cmp-IsAntisymmetric a b is
+
 rising_put_at : (r : Ordering) (new e : Entry) (es rest : Table) → text_cmp new.0 e.0 ≡ r → IsRising (e ∷ es) → IsRising rest → (text_cmp e.0 new.0 ≡ Less → IsBelow e.0 rest) → IsRising (put_row_at r new e es rest)
 rising_put_at Less new e es rest is h more below = ((is, below_more new.0 e.0 es is h.0), h)
-rising_put_at Equal new e es rest is h more below = (subst (λ k. IsBelow k es) (sym (fin.slice_cmp-IsAntisymmetric fin.nat_cmp-IsAntisymmetric new.0 e.0 is)) h.0, h.1)
+rising_put_at Equal new e es rest is h more below = (subst (λ k. IsBelow k es) (sym (equal_is new.0 e.0 is)) h.0, h.1)
 rising_put_at Greater new e es rest is h more below = (below (nat_list_cmp_total.antisymm e.0 new.0 ∙ ap ordering_reverse is), more)
 
-rising_put : (new : Entry) (es : Table) → IsRising es → IsRising (put_row new es)
+pub rising_put : (new : Entry) (es : Table) → IsRising es → IsRising (put_row new es)
 rising_put new [] h = (tt, tt)
 rising_put new (e ∷ es) h = rising_put_at (text_cmp new.0 e.0) new e es (put_row new es) refl h (rising_put new es h.1) (λ less. below_put e.0 new es less h.0)
 
@@ -48,7 +51,7 @@ below_filter f k (e ∷ es) all = by_test (f e) (below_filter f k es all.1)
     by_test true rest = (all.0, rest)
     by_test false rest = rest
 
-rising_filter : (f : Entry → Bool) (es : Table) → IsRising es → IsRising (filter f es)
+pub rising_filter : (f : Entry → Bool) (es : Table) → IsRising es → IsRising (filter f es)
 rising_filter f [] h = tt
 rising_filter f (e ∷ es) h = by_test (f e) (below_filter f e.0 es h.0) (rising_filter f es h.1)
   where
@@ -56,12 +59,12 @@ rising_filter f (e ∷ es) h = by_test (f e) (below_filter f e.0 es h.0) (rising
     by_test true below rest = (below, rest)
     by_test false below rest = rest
 
-rising_at : (tables : List Table) (k : ℕ) → AllByRecursion IsRising tables → IsRising (unwrap_or (slice_get tables k) [])
+pub rising_at : (tables : List Table) (k : ℕ) → AllByRecursion IsRising tables → IsRising (unwrap_or (slice_get tables k) [])
 rising_at [] k all = tt
 rising_at (t ∷ ts) zero all = all.0
 rising_at (t ∷ ts) (suc k) all = rising_at ts k all.1
 
-rising_set : (tables : List Table) (k : ℕ) (t : Table) → AllByRecursion IsRising tables → IsRising t → AllByRecursion IsRising (slice_set tables k t)
+pub rising_set : (tables : List Table) (k : ℕ) (t : Table) → AllByRecursion IsRising tables → IsRising t → AllByRecursion IsRising (slice_set tables k t)
 rising_set [] k t all h = tt
 rising_set (x ∷ xs) zero t all h = (h, all.1)
 rising_set (x ∷ xs) (suc k) t all h = (all.0, rising_set xs k t all.1 h)

@@ -48,3 +48,7 @@ pub mod CatchUpRows
 pub mod GoodSites
 pub mod ChangedItems
 pub mod PressRows
+pub mod Numbers
+pub mod Commands
+pub mod Script
+pub mod Transcript

@@ -4,6 +4,7 @@
 //! The definitions stand in `specs`. A law is a function without a body: its contract is the law.
 #![tactic(auto)]
 
+mod command;
 mod content_laws;
 mod edit;
 mod example_rows;
@@ -13,6 +14,7 @@ mod publishing_laws;
 mod rendering_laws;
 mod serving_laws;
 
+pub use command::Command;
 pub use content_laws::{commits_law, versions_law};
 pub use edit::Edit;
 pub use example_rows::{catch_up_rows, medal_rows, next_rows, press_rows, results_rows};

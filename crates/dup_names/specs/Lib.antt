@@ -2,3 +2,4 @@ pub mod Grammar
 pub mod Order
 pub mod Short
 pub mod Words
+pub mod LineWords

@@ -14,7 +14,7 @@ use Rattle.dup_model.specs.Content.{Entry, Table}
 use Rattle.dup_model.specs.Commits.{put_row, put_row_at}
 use Rattle.dup_model.specs.Tables.{IsBelow, IsRising}
 use Rattle.dup_records.specs.Places.{IsAt, IsGap}
-use Rattle.dup_records.proofs.Rising.{below_more, equal_is}
+use Rattle.dup_model.proofs.Tables.{below_more, equal_is}
 
 reversed : (a b : Word) (r : Ordering) → text_cmp b a ≡ r → text_cmp a b ≡ ordering_reverse r
 reversed a b r is = nat_list_cmp_total.antisymm a b ∙ ap ordering_reverse is

@@ -5,7 +5,7 @@ use Rattle.std.specs.Prelude.{slice_set, replicate}
 use Rattle.std.specs.List.{AllByRecursion}
 use Rattle.dup_model.specs.Content.{Table}
 use Rattle.dup_model.specs.Tables.{IsRising}
-use Rattle.dup_records.proofs.Rising.{rising_set}
+use Rattle.dup_model.proofs.Tables.{rising_set}
 
 pub map_set : {A B : Type 0} (f : A → B) (xs : List A) (i : ℕ) (v : A) → map f (slice_set xs i v) ≡ slice_set (map f xs) i (f v)
 map_set f [] i v = refl

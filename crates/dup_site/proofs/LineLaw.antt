@@ -8,7 +8,7 @@ use Rattle.std.proofs.lemmas.Bool.{and_parts, and_from, or_cases, or_left, or_ri
 use Rattle.std.proofs.lemmas.Str.{IsUtf8-append, IsUtf8-from_is_utf8, is_utf8-from_IsUtf8, IsUtf8-from_ascii, IsUtf8-nil}
 use Rattle.dup_names.specs.Grammar.{is_name, is_path, is_name_byte, is_key_byte, is_path_byte, is_lower, are_segments}
 use Rattle.dup_template.specs.Texts.{is_plain, is_prefix, is_line_byte}
-use Rattle.dup_site.specs.Words.{line_words, trimmed, spaced, text_lines, is_space, is_empty, without_last, is_feed}
+use Rattle.dup_names.specs.LineWords.{line_words, trimmed, spaced, text_lines, is_space, is_empty, without_last, is_feed}
 use Rattle.dup_site.specs.Spelling.{line_of, by_start, say_line, by_words, line_text, is_spelled, is_spelled_head, is_spelled_page, is_named, with_word, head_words, page_words, text_says, written}
 use Rattle.dup_template.specs.declared.site.Parts.{Parts}
 use Rattle.dup_site.specs.Draft.{said}

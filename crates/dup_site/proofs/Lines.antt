@@ -12,7 +12,7 @@ use Rattle.dup_site.specs.Drafted.{Goes}
 use Rattle.dup_site.specs.Kept.{Keeping, IsKept, Keeps, keep_at}
 use Rattle.dup_site.specs.Reads.{Says}
 use Rattle.dup_site.specs.Spelling.{line_of}
-use Rattle.dup_site.specs.Words.{text_lines}
+use Rattle.dup_names.specs.LineWords.{text_lines}
 use Rattle.dup_site.proofs.Along.{Over, Stacks, Goes_along, Along}
 use Rattle.dup_site.proofs.Steps.{keep-along}
 

@@ -2,7 +2,7 @@
 use Rattle.dup_names.specs.Words.{Word}
 use Rattle.std.proofs.Common.{◌≡◌, ℕ, List, [], ◌∷◌, ◌++◌, refl, ap, sym, ◌∙◌, append-nil, append_assoc}
 use Rattle.std.specs.List.{flat_map}
-use Rattle.dup_site.specs.Words.{spaced}
+use Rattle.dup_names.specs.LineWords.{spaced}
 
 pub spaced_cons : (w : Word) (ws : List Word) → spaced (w ∷ ws) ≡ w ++ flat_map (λ v. 32 ∷ v) ws
 spaced_cons w [] = sym (append-nil w)

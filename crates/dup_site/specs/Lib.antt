@@ -5,4 +5,3 @@ pub mod Found
 pub mod Kept
 pub mod Reads
 pub mod Spelling
-pub mod Words

@@ -1,7 +1,7 @@
 ghost use Rattle.std.specs.Prelude.{◌≡◌, Some, None, IfOk, IsUtf8, if◌then◌else◌};
 ghost use Rattle.dup_template.specs.Texts.{is_plain};
 ghost use Rattle.dup_site.specs.Spelling as spelling;
-ghost use Rattle.dup_site.specs.Words as words;
+ghost use Rattle.dup_names.specs.LineWords as words;
 
 use crate::forms::by_word;
 use crate::line::Line;

@@ -1,5 +1,5 @@
 ghost use Rattle.std.specs.Prelude.{◌≡◌, ◌≤◌, ◌<◌, ◌+◌, ◌∷◌, length};
-ghost use Rattle.dup_site.specs.Words as words;
+ghost use Rattle.dup_names.specs.LineWords as words;
 ghost use Rattle.dup_site.specs.Draft as draft;
 ghost use Rattle.dup_site.specs.Drafted.{drafted, keeping_of, Goes};
 ghost use Rattle.dup_site.specs.Kept as kept;

@@ -1,6 +1,6 @@
 ghost use Rattle.std.specs.Prelude.{◌≡◌, ◌≤◌, false, IfOk, map, length};
 ghost use Rattle.std.specs.Str.{is_utf8};
-ghost use Rattle.dup_site.specs.Words as words;
+ghost use Rattle.dup_names.specs.LineWords as words;
 
 use std::alloc::{AllocError, Global};
 use std::str;

@@ -3,7 +3,7 @@ ghost use Rattle.std.specs.List.{list_all, flat_map};
 ghost use Rattle.dup_names.specs.Grammar.{is_name};
 ghost use Rattle.dup_site.specs.Spelling as spelling;
 ghost use Rattle.dup_site.specs.Spelling.{texts, are_spelled, line_text, is_spelled, marked_text, is_named};
-ghost use Rattle.dup_site.specs.Words.{spaced};
+ghost use Rattle.dup_names.specs.LineWords.{spaced};
 ghost use Rattle.dup_site.specs.Canonical as canonical;
 ghost use Rattle.dup_site.specs.declared.line.Line.TheVariants as line;
 ghost use Rattle.dup_site.specs.declared.line.Head.TheVariants as head;

@@ -1,10 +1,8 @@
 use Rattle.std.proofs.Common.{subst, rules}
-use Rattle.dup_names.specs.Words.{Path}
-use Rattle.dup_names.specs.declared.value.Look.{Look}
 use Rattle.dup_main.specs.Kept.{KeepsPages}
 use Rattle.dup_main.specs.RowPages.{row_page}
-use Rattle.dup_main.specs.Session.{Published, with_page}
-use Rattle.dup_main.proofs.Published.{page_is, one_more, finished}
+use Rattle.dup_model.specs.Script.{Published, with_page}
+use Rattle.dup_main.proofs.Published.{one_more, finished}
 use Rattle.dup_main.proofs.publish.publish_rows.Goals as goal
 
 pub loop-row-preserved : goal.loop-row-preserved
@@ -12,12 +10,9 @@ loop-row-preserved c = record {
   risen = search rules;
   grows = search rules;
   published = λ p k.
-      let h = c.loop-row.invariant.published p k in
-      let key = c.row-item.result.0 in (
-        with_page c.args.version h.0 (row_page c.args.site.now c.args.content.now key),
-        subst (λ (at : Path × Look). KeepsPages (with_page c.args.version h.0 at) c.publish.new.self)
-            (page_is c.args.site.now c.args.content.now key c.row_path.result c.in_ok-render.field-0.items c.row_object.result c.row_path.ensures c.row_object.ensures c.in_ok-render.ensures)
-            (c.in_ok-publish.ensures.published h.0 h.1),
+      let h = c.loop-row.invariant.published p k in (
+        with_page c.args.version h.0 (row_page c.args.site.now c.args.content.now c.row-item.result.0),
+        c.in_ok-publish_row.ensures.published h.0 h.1,
         one_more c.args.site.now c.args.content.now c.args.version c.loop-row.row-index _ c.row-item.result h.0 _ c.loop-row-test.true c.row-item.is h.2,
       );
 }

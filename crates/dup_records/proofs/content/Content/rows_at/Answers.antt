@@ -1,5 +1,5 @@
 use Rattle.std.proofs.Common.{map}
-use Rattle.dup_records.proofs.Rising.{rising_at}
+use Rattle.dup_model.proofs.Tables.{rising_at}
 use Rattle.dup_records.proofs.content.Content.rows_at.Goals as goal
 
 pub returns-clause-rising : goal.returns-clause-rising

@@ -1,4 +1,4 @@
-use Rattle.dup_records.proofs.Rising.{rising_filter}
+use Rattle.dup_model.proofs.Tables.{rising_filter}
 use Rattle.dup_records.proofs.content.Content.without.Goals as goal
 
 pub with_rows-requires-clause-rising : goal.with_rows-requires-clause-rising

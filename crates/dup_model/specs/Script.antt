@@ -16,8 +16,8 @@ use Rattle.dup_model.specs.Needs.{same_look}
 use Rattle.dup_model.specs.Touched.{expanded, joined, is_in, without}
 use Rattle.dup_model.specs.Editions.{Page, Edition}
 use Rattle.dup_model.specs.Journal.{usual_limits}
-use Rattle.dup_main.specs.declared.command.Command.{Command}
-use Rattle.dup_main.specs.declared.command.Command.TheVariants as command
+use Rattle.dup_model.specs.Commands.{Command}
+use Rattle.dup_model.specs.declared.command.Command.TheVariants as command
 
 -- the commits that were accepted; the version that was last settled, if any; the newest edition and its number; and the nodes' numbers
 pub record Session : Type 0 where
