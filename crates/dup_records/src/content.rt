@@ -1,9 +1,9 @@
 // Contents: a site and the rows of its kinds.
-ghost use Rattle.std.specs.Prelude.{◌≡◌, ◌<◌, ◌↔◌, [], IsTrue, IfOk, length, map, not, is_some, replicate, Some};
+ghost use Rattle.std.specs.Prelude.{◌≡◌, ◌<◌, ◌≤◌, ◌↔◌, [], IsTrue, IfOk, length, map, not, is_some, replicate, Some};
 ghost use Rattle.std.specs.List.{filter, slice_get};
 ghost use Rattle.std.specs.Option.{unwrap_or};
 ghost use Rattle.dup_names.specs.Words.{place, same};
-ghost use Rattle.dup_model.specs.Names.{fields_at, kind_at};
+ghost use Rattle.dup_model.specs.Names.{field_at, fields_at, kind_at, template_at};
 ghost use Rattle.dup_model.specs.Content.{start, table, text, texts_at, row, keys, group, value, IsOf};
 ghost use Rattle.dup_model.specs.Commits.{blank, put_row, with_fields, with_table};
 ghost use Rattle.dup_model.specs.Tables.{IsRising};
@@ -11,7 +11,8 @@ ghost use Rattle.dup_model.specs.Tables.{IsRising};
 use crate::agreeing::{are_group, are_keys, is_answer, is_text};
 use crate::keys::{keys_of, keys_where};
 use crate::rows::{
-    Entry, find_row, find_text, rows_with, rows_without, set_fields, text_or_empty, texts_or_blank,
+    Entry, find_row, find_text, place_of, rows_with, rows_without, set_fields, text_or_empty,
+    texts_or_blank,
 };
 use dup_lists::Listed;
 use dup_names::{Item, Key, KeyList, Name, NoMemory, Text, Value};
@@ -50,7 +51,8 @@ impl Model for Content {
 
 // The number of a kind, or their number where it is absent.
 fn kind_place(kinds: &[KindPart], name: &Name) -> usize
-    ensures { result ≡ place name.now (map (λ k. k.name) kinds.now) }
+    ensures value { result ≡ place name.now (map (λ k. k.name) kinds.now) }
+    ensures within { result ≤ length kinds.now }
 {
     for (index, kind) in kinds.iter().enumerate() {
         if kind.name == *name {
@@ -119,7 +121,8 @@ impl Content {
     }
 
     fn kinds(&self) -> &[KindPart]
-        ensures { result.now ≡ self.now.frame.kinds }
+        ensures value { result.now ≡ self.now.frame.kinds }
+        ensures few { length result.now ≤ 64 }
     {
         self.site.kinds()
     }
@@ -129,6 +132,30 @@ impl Content {
         ensures { result ≡ kind_at self.now.frame name.now }
     {
         kind_place(self.kinds(), name)
+    }
+
+    /// The number of the kind with this name, or the number of kinds where there is none. It walks
+    /// at most 64 kinds.
+    pub fn kind_number(&self, name: &Name) -> u16
+        ensures { result ≡ kind_at self.now.frame name.now }
+    {
+        kind_place(self.kinds(), name) as u16
+    }
+
+    /// The number of a kind's field with this name, or the number of its fields where there is
+    /// none. It walks at most 32 fields.
+    pub fn field_number(&self, kind: u16, name: &Name) -> u16
+        ensures { result ≡ field_at self.now.frame kind name.now }
+    {
+        place_of(self.site.fields(kind), name) as u16
+    }
+
+    /// The number of the template with this name, or the number of templates where there is none. It
+    /// walks at most 256 templates.
+    pub fn template_number(&self, name: &Name) -> u16
+        ensures { result ≡ template_at self.now.frame name.now }
+    {
+        self.site().template_number(name)
     }
 
     /// The number of kinds.

@@ -104,7 +104,8 @@ pub(crate) fn blank_texts(alloc: Global, names: &[Name]) -> Result<Vec<Text>, No
 
 /// The place of a name, or their number where it is absent.
 pub(crate) fn place_of(names: &[Name], name: &Name) -> usize
-    ensures { result ≡ place name.now names.now }
+    ensures value { result ≡ place name.now names.now }
+    ensures within { result ≤ length names.now }
 {
     for (index, other) in names.iter().enumerate() {
         if other == name {

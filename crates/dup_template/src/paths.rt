@@ -51,6 +51,13 @@ fn joined(prefix: &Prefix, key: &Key) -> Option<Path>
     read_known(&bytes[..end])
 }
 
+/// The path of the page that a family has for the row under a key.
+pub fn row_path(prefix: &Prefix, key: &Key) -> Path
+    ensures { result ≡ prefix.now ++ 47 ∷ key.now }
+{
+    joined(prefix, key).unwrap()
+}
+
 fn path_by(rule: &PageRule, key: &Option<Key>) -> Option<Path>
     ensures { result ≡ paths.path_by (Some rule.now) key.now }
 {
@@ -101,6 +108,17 @@ pub fn path_of(site: &Site, obj: &Obj) -> Option<Path>
     find_path(site.parts(), obj)
 }
 
+/// The path of a template's page, by the template's name: without key of a fixed page, with one of
+/// a family's. It takes no memory.
+pub fn page_path(site: &Site, template: &Name, key: &Option<Key>) -> Option<Path>
+    ensures { result ≡ paths.path_by (paths.rule_of site.now.pages template.now) key.now }
+{
+    match rule_of(site.page_rules(), template) {
+        None => None,
+        Some(rule) => path_by(rule, key),
+    }
+}
+
 fn keyed(of: &Name, rest: &[u8]) -> Option<(Name, Option<Key>)>
     ensures { result ≡ paths.keyed of.now (Some rest.now) }
 {
@@ -143,7 +161,8 @@ fn first_shown(path: &Path, rules: &[PageRule]) -> Option<(Name, Option<Key>)>
     None
 }
 
-fn place_of(templates: &[TemplatePart], name: &Name) -> usize
+/// The place of the template with this name, or their number where there is none.
+pub(crate) fn place_of(templates: &[TemplatePart], name: &Name) -> usize
     ensures value { result ≡ place name.now (good.template_names templates.now) }
     ensures within { result ≤ length templates.now }
 {
@@ -164,8 +183,7 @@ pub fn obj_of(site: &Site, path: &Path) -> Option<Obj>
     match first_shown(path, site.page_rules()) {
         None => None,
         Some((name, key)) => {
-            let at = place_of(site.templates(), &name);
-            let template = at as u16;
+            let template = site.template_number(&name);
             Some(Obj { template, key })
         }
     }

@@ -1,10 +1,12 @@
 ghost use Rattle.std.specs.Prelude.{◌≡◌, ◌≤◌, length, IfOk};
 ghost use Rattle.std.specs.List.{slice_get};
+ghost use Rattle.dup_names.specs.Words.{place};
 ghost use Rattle.dup_template.specs.Good as good;
 ghost use Rattle.std.specs.Result.{result_err};
 
 use crate::bodies::bodies_hold;
 use crate::check::{heads_fit, kinds_fit, pages_fit};
+use crate::paths::place_of;
 use crate::plain::Prefix;
 use crate::refusal::SiteRefusal;
 use crate::statement::Body;
@@ -112,6 +114,14 @@ impl Site {
         ensures within { length result.now ≤ 256 }
     {
         self.parts.templates.items()
+    }
+
+    /// The number of the template with this name, or the number of templates where there is none.
+    /// It walks at most 256 templates.
+    pub fn template_number(&self, name: &Name) -> u16
+        ensures { result ≡ place name.now (good.template_names self.now.templates) }
+    {
+        place_of(self.templates(), name) as u16
     }
 
     /// The declarations of pages in order.
