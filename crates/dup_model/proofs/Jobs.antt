@@ -243,9 +243,12 @@ module _ (c : Content) where
       | inr later ↦ one_of xs all.1 o later
     ]
 
+-- each page's object can be expanded
+pub pages_are_jobs : (c : Content) → JobsFit c → AllByRecursion (λ (p : Path × Obj). IsJob c.frame p.1) (pages c)
+pages_are_jobs c fit = all_in_order (λ p q. text_cmp p.0 q.0) (PageFits c fit) (flat_map (pages_of c) c.frame.pages) (pages_fit c fit c.frame.pages fit.pages)
+
 pub found_are_jobs : FoundAreJobs
 found_are_jobs c done o fit inside =
     one_of c fit (found c done)
-    (all_in_order obj_cmp (IsJob c.frame) (flat_map (λ p. reached_from c (is_in done) p.1) (pages c))
-    (found_fit c fit done (pages c) (all_in_order (λ p q. text_cmp p.0 q.0) (PageFits c fit) (flat_map (pages_of c) c.frame.pages) (pages_fit c fit c.frame.pages fit.pages))))
+    (all_in_order obj_cmp (IsJob c.frame) (flat_map (λ p. reached_from c (is_in done) p.1) (pages c)) (found_fit c fit done (pages c) (pages_are_jobs c fit)))
     o inside

@@ -133,6 +133,9 @@ get_text s node pass path =
     (if nat_le pass s.number then page_text s.number (fin.get s.edition path)
     else line (codes "ahead " ++ decimal pass ++ codes " " ++ decimal s.number))
 
+abbrev pub not_built_text : ℕ → Word
+not_built_text number = line (codes "not built " ++ decimal number)
+
 -- the answer to the command in the line of this number
 abbrev pub answer : Parts → Session → ℕ → Command → Word
 answer site s number (command.Commit commit) = commit_text s (refusal (content site s.commits) commit usual_limits.rows)
@@ -140,4 +143,4 @@ answer site s number command.Settle = settle_text site s
 answer site s number (command.Node node) = node_text s node
 answer site s number (command.Get node pass path) = get_text s node pass path
 answer site s number command.Blank = []
-answer site s number command.NotBuilt = line (codes "not built " ++ decimal number)
+answer site s number command.NotBuilt = not_built_text number

@@ -1,5 +1,5 @@
 use dup_lists::Listed;
-use dup_names::{Item, Obj};
+use dup_names::{Item, Obj, Path};
 
 /// What a statement gives: bytes, an embedding, an item that it reads, or the path of a link.
 #[derive(Drop)]
@@ -7,5 +7,5 @@ pub enum Mark {
     Plain(Listed<u8>),
     Hole(Obj),
     Read(Item),
-    Goes(Listed<u8>),
+    Goes(Path),
 }
