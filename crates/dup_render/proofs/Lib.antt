@@ -1,0 +1,5 @@
+pub mod Sorting
+pub mod ByField
+pub mod Turns
+pub mod Ordered
+pub mod Expansion

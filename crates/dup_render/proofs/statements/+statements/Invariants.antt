@@ -1,0 +1,10 @@
+use Rattle.std.proofs.Common.{◌≡◌, ◌++◌, take}
+use Rattle.dup_model.specs.Marks.{body_marks}
+use Rattle.dup_model.specs.Turns.{bodies}
+use Rattle.dup_render.proofs.statements.+statements.Given as goal
+
+abbrev pub invariant-put_body-loop-statement : goal.invariant-put_body-loop-statement
+invariant-put_body-loop-statement l = l.out.items ≡ l.initial.out.items ++ body_marks l.content (take l.statement-index l.body) l.here
+
+abbrev pub invariant-put_bodies-loop-key : goal.invariant-put_bodies-loop-key
+invariant-put_bodies-loop-key l = l.out.items ≡ l.initial.out.items ++ bodies l.kind (body_marks l.content l.body) (take l.key-index l.keys)

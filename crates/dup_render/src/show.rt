@@ -1,0 +1,94 @@
+// What an object shows.
+ghost use Rattle.std.specs.Prelude.{◌≡◌, ◌↔◌, ◌++◌, IsTrue, IfOk, OnOk};
+ghost use Rattle.dup_model.specs.Jobs.{IsJob};
+ghost use Rattle.dup_model.specs.Marks.{marks};
+ghost use Rattle.dup_model.specs.Show.{show, show_below, shown};
+
+use crate::here::Here;
+use crate::marks::Marks;
+use crate::places::{body_of, kind_from, kind_of};
+use crate::statements::put_body;
+use dup_model::Mark;
+use dup_names::{NoMemory, Obj};
+use dup_records::Content;
+use std::alloc::Global;
+
+/// What the statements of an object give, up to each embedding.
+pub(crate) fn marks_of(alloc: Global, content: &Content, obj: &Obj) -> Result<Marks, NoMemory>
+    ensures { IfOk result (λ made. made.items ≡ marks content.now obj.now) }
+{
+    let here = Here {
+        kind: kind_from(content, obj.template),
+        key: obj.key,
+    };
+    let mut out = Vec::new(alloc);
+    put_body(
+        alloc,
+        content,
+        &here,
+        body_of(content, obj.template),
+        &mut out,
+    )?;
+    Ok(out)
+}
+
+// A good site's templates embed earlier ones, so no hole is left out.
+#[cycle(show)]
+fn put_shown(
+    alloc: Global,
+    content: &Content,
+    earlier: u16,
+    mark: &Mark,
+    out: &mut Vec<u8>,
+) -> Result<(), NoMemory>
+    ensures { OnOk result (out.new.items ≡ out.old.items ++ shown (show_below content.now earlier) mark.now) }
+{
+    match mark {
+        Mark::Plain(bytes) => {
+            out.extend_from_slice(bytes.items())?;
+            Ok(())
+        }
+        Mark::Hole(inner) => {
+            if inner.template < earlier {
+                put_show(alloc, content, inner, out)
+            } else {
+                Ok(())
+            }
+        }
+        Mark::Read(_) => Ok(()),
+        Mark::Goes(_) => Ok(()),
+    }
+}
+
+#[cycle(show)]
+fn put_show(alloc: Global, content: &Content, obj: &Obj, out: &mut Vec<u8>) -> Result<(), NoMemory>
+    ensures { OnOk result (out.new.items ≡ out.old.items ++ show content.now obj.now) }
+{
+    let marks = marks_of(alloc, content, obj)?;
+    for mark in &marks {
+        put_shown(alloc, content, obj.template, mark, out)?;
+    }
+    Ok(())
+}
+
+/// Whether an object can be shown: its template exists, and it has a key exactly where its template
+/// has a kind. It takes no memory.
+pub fn is_job(content: &Content, obj: &Obj) -> bool
+    ensures { IsTrue result ↔ IsJob content.now.frame obj.now }
+{
+    let count = content.site().templates().len();
+    let kind = kind_of(content, obj.template);
+    usize::from(obj.template) < count && obj.key.is_some() == kind.is_some()
+}
+
+/// What an object shows, with all that it embeds, from scratch: an object that is embedded twice is
+/// rendered twice. A row is found by a binary search and a name by a walk over its list; an `each`
+/// by a field walks the whole kind. Only want of memory is refused.
+pub fn show_plain(alloc: Global, content: &Content, obj: &Obj) -> Result<Vec<u8>, NoMemory>
+    requires { IsJob content.now.frame obj.now }
+    ensures { IfOk result (λ made. made.items ≡ show content.now obj.now) }
+{
+    let mut out = Vec::new(alloc);
+    put_show(alloc, content, obj, &mut out)?;
+    Ok(out)
+}
