@@ -1,10 +1,12 @@
 pub mod Commits
+pub mod CutScripts
 pub mod Editions
 pub mod NumberLemmas
+pub mod PageJobs
 pub mod Published
+pub mod RenderSoFar
 pub mod Renders
 pub mod Rising
-pub mod RowBytes
 pub mod RowCountLemmas
 pub mod RowPageLemmas
 pub mod RowReads

@@ -8,13 +8,13 @@ use Rattle.dup_names.specs.declared.value.Look.{Look}
 use Rattle.dup_template.specs.declared.site.Parts.{Parts}
 use Rattle.dup_model.specs.Content.{Content, Table, Entry}
 use Rattle.dup_main.specs.Kept.{plain_look}
-use Rattle.dup_main.specs.Rendering.{row_bytes}
+use Rattle.dup_model.specs.Show.{show}
 use Rattle.dup_main.specs.RowPages.{row_object, row_page, row_path}
 use Rattle.dup_model.specs.Script.{Published, published, with_page}
 
-pub page_is : (site : Parts) (c : Content) (key path bytes : Word) (o : Obj) → path ≡ row_path site key → o ≡ row_object key → bytes ≡ row_bytes c key
+pub page_is : (site : Parts) (c : Content) (key path bytes : Word) (o : Obj) → path ≡ row_path site key → o ≡ row_object key → bytes ≡ show c o
     → (path, plain_look o bytes) ≡ row_page site c key
-page_is site c key path bytes o at is shows = rw (at, is, shows) refl
+page_is site c key path bytes o at is shows = rw (at, shows, is) refl
 
 abbrev pub pages_from : Parts → Content → Table → List (Path × Look)
 pages_from site c rows = map (row_page site c) (map (λ e. e.0) rows)

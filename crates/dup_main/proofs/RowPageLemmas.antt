@@ -1,6 +1,6 @@
 -- The pages of a site of the first form.
 use Rattle.std.proofs.Common.{◌≡◌, Bool, true, false, ◌&&◌, refl, sym, ap, ◌∙◌, subst, List, [], ◌∷◌, ◌++◌, map, append-nil}
-use Rattle.std.specs.Prelude.{Option, Some, None}
+use Rattle.std.specs.Prelude.{Option, Some, None, is_some}
 use Rattle.std.specs.List.{flat_map, list_all, AllByRecursion, slice_get}
 use Rattle.std.specs.Option.{unwrap_or}
 use Rattle.std.specs.declared.cmp.Ordering.{Ordering}
@@ -21,17 +21,17 @@ use Rattle.dup_template.specs.declared.statement.Statement.TheFolds.{fold-roll-S
 use Rattle.dup_model.specs.Content.{Content, Table, IsOf, keys, table, body_at}
 use Rattle.dup_model.specs.Frame.{Head, frame_of, bodies_of}
 use Rattle.dup_model.specs.Here.{Here, row_at}
+use Rattle.dup_model.specs.Jobs.{IsJob}
 use Rattle.dup_model.specs.Looks.{look, uses}
 use Rattle.dup_model.specs.Marks.{statement_marks, body_marks, here_at}
 use Rattle.dup_model.specs.Pages.{pages, pages_of}
-use Rattle.dup_model.specs.Show.{show, shown}
+use Rattle.dup_model.specs.Show.{show}
 use Rattle.dup_model.specs.Skeletons.{goes, goes_by, embeds}
 use Rattle.dup_model.specs.Tables.{IsRising}
 use Rattle.dup_model.proofs.Equations.{marks-Say, marks-Field}
 use Rattle.dup_model.proofs.Induction.{by_forms}
 use Rattle.dup_main.specs.FirstForm.{is_simple, is_kind, is_kind_with, is_first_form}
 use Rattle.dup_main.specs.Kept.{plain_look}
-use Rattle.dup_main.specs.Rendering.{row_bytes, statement_bytes}
 use Rattle.dup_main.specs.RowPages.{row_object, row_page, row_path, prefix_in, HasRowPages, RowsHavePages}
 use Rattle.dup_template.specs.Paths.{path_at}
 use Rattle.dup_main.proofs.SameWords.{same_back}
@@ -85,12 +85,6 @@ body_goes_nowhere c key (x ∷ xs) simple =
     ∙ ap (λ (l : List Path). l ++ flat_map goes_by (body_marks c xs (row_at 0 (Some key)))) (goes_nowhere c key x h.0)
     ∙ body_goes_nowhere c key xs h.1
 
-body_shows : (c : Content) (key : Word) (body : List Statement) → flat_map (shown (λ _. [])) (body_marks c body (row_at 0 (Some key))) ≡ flat_map (statement_bytes c key) body
-body_shows c key [] = refl
-body_shows c key (x ∷ xs) =
-    flat_map-append (shown (λ _. [])) (statement_marks c x (row_at 0 (Some key))) (body_marks c xs (row_at 0 (Some key)))
-    ∙ ap (λ (l : Word). statement_bytes c key x ++ l) (body_shows c key xs)
-
 none_below : {X Y : Type 0} (xs : List X) → flat_map (λ (x : X). let none : List Y = [] in none) xs ≡ []
 none_below [] = refl
 none_below (x ∷ xs) = none_below xs
@@ -113,15 +107,15 @@ module _ (k : KindPart) (t : Head) (prefix name of : Word) (bodies : List (List 
   uses_formed : (key : Word) → uses c (row_object key) ≡ row_object key ∷ []
   uses_formed key = ap (λ (l : List Obj). in_order obj_cmp (row_object key ∷ l)) (none_below (embeds c (row_object key)))
 
-  shows_formed : (key : Word) → show c (row_object key) ≡ row_bytes c key
-  shows_formed key = ap (λ (h : Here). flat_map (shown (λ _. [])) (body_marks c (body_at c 0) h)) (here_formed key) ∙ body_shows c key (body_at c 0)
+  job_formed : (key : Word) → IsJob c.frame (row_object key)
+  job_formed key = record { exists = refl; keyed = ap is_some (sym kind) }
 
   goes_formed : (key : Word) → list_all is_simple (body_at c 0) ≡ true → goes c (row_object key) ≡ []
   goes_formed key simple =
       ap (λ (h : Here). in_order text_cmp (flat_map goes_by (body_marks c (body_at c 0) h))) (here_formed key) ∙ ap (in_order text_cmp) (body_goes_nowhere c key (body_at c 0) simple)
 
-  look_formed : (key : Word) → list_all is_simple (body_at c 0) ≡ true → look c (row_object key) ≡ plain_look (row_object key) (row_bytes c key)
-  look_formed key simple = simp (uses_formed key, shows_formed key, goes_formed key simple) refl
+  look_formed : (key : Word) → list_all is_simple (body_at c 0) ≡ true → look c (row_object key) ≡ plain_look (row_object key) (show c (row_object key))
+  look_formed key simple = simp (uses_formed key, goes_formed key simple) refl
 
   pub rows_have_pages : (site : Parts) → site.pages ≡ Family prefix name ∷ [] → list_all is_simple (body_at c 0) ≡ true → IsRising (table c 0) → HasRowPages site c
   rows_have_pages site is simple rising =
@@ -133,7 +127,7 @@ module _ (k : KindPart) (t : Head) (prefix name of : Word) (bodies : List (List 
       record {
         pages = ap (map (λ p. (p.0, look c p.1))) all
             ∙ map_made (λ p. (p.0, look c p.1)) made (row_page site c)
-            (λ key. ap (λ (l : Look). (prefix ++ 47 ∷ key, l)) (look_formed key simple) ∙ ap (λ (rules : List PageRule). (prefix_in rules ++ 47 ∷ key, plain_look (row_object key) (row_bytes c key))) (sym is)) (keys c 0);
+            (λ key. ap (λ (l : Look). (prefix ++ 47 ∷ key, l)) (look_formed key simple) ∙ ap (λ (rules : List PageRule). (prefix_in rules ++ 47 ∷ key, plain_look (row_object key) (show c (row_object key)))) (sym is)) (keys c 0);
         objects = ap (λ (l : List (Path × Obj)). in_order obj_cmp (flat_map (λ p. uses c p.1) l)) all
             ∙ ap (in_order obj_cmp) (flat_made made (keys c 0) uses_formed)
             ∙ in_order_rising obj_cmp (map row_object (keys c 0)) (rises_map obj_cmp row_object (λ a b. refl) (table c 0) rising);
@@ -185,6 +179,7 @@ row_pages site c form is rise =
 pub record OneObject (c : Content) : Type 0 where
   pub here : (key : Word) → here_at c (row_object key) ≡ row_at 0 (Some key)
   pub uses : (key : Word) → uses c (row_object key) ≡ row_object key ∷ []
+  pub job : (key : Word) → IsJob c.frame (row_object key)
 
 one_from : (kinds : List KindPart) (templates : List TemplatePart) (rules : List PageRule) (tables : List Table) → is_kind_with kinds templates rules ≡ true
     → OneObject (content_of (record { kinds = kinds; templates = templates; pages = rules }) tables)
@@ -202,12 +197,16 @@ one_from (k ∷ []) (t ∷ []) (Family prefix name ∷ []) tables is =
     record {
       here = here_formed k (record { name = t.name; kind = t.kind }) prefix name of.0 (t.body ∷ []) tables h.1 of.1 of.2;
       uses = uses_formed k (record { name = t.name; kind = t.kind }) prefix name of.0 (t.body ∷ []) tables h.1 of.1 of.2;
+      job = job_formed k (record { name = t.name; kind = t.kind }) prefix name of.0 (t.body ∷ []) tables h.1 of.1 of.2;
     }
 
 pub one_object : (site : Parts) (c : Content) → is_first_form site ≡ true → IsOf site c → OneObject c
 one_object site c form is =
     let e : content_of site c.tables ≡ c = sym (λ i. record { frame = is.frame i; bodies = is.bodies i; tables = c.tables }) in
     subst OneObject e (one_from site.kinds site.templates site.pages c.tables form)
+
+pub row_job : (site : Parts) (c : Content) (key : Word) (o : Obj) → is_first_form site ≡ true → IsOf site c → o ≡ row_object key → IsJob c.frame o
+row_job site c key o form is same = subst (IsJob c.frame) (sym same) ((one_object site c form is).job key)
 
 -- the path of a row's object
 path_from : (kinds : List KindPart) (templates : List TemplatePart) (rules : List PageRule) (key : Word) → is_kind_with kinds templates rules ≡ true

@@ -1,23 +1,19 @@
 -- A script so far, and one answer more.
-use Rattle.std.proofs.Common.{◌≡◌, inl, inr, ℕ, ◌+◌, refl, sym, ap, ◌∙◌, subst, [], ◌++◌, append_assoc, append-nil}
-use Rattle.std.specs.Prelude.{None, Some, Option, Result, Ok, Err, IfErr, IsErrAnd, ◌⊎◌}
+use Rattle.std.proofs.Common.{◌≡◌, ℕ, ◌+◌, refl, sym, ap, ◌∙◌, subst, [], ◌++◌, append_assoc, append-nil}
+use Rattle.std.specs.Prelude.{None, Some, Option}
 use Rattle.std.specs.Io.KnownBytes.{Appends}
 use Rattle.std.proofs.KnownBytes.{Appends-trans, Appends-nil}
 use Rattle.dup_io.specs.Reading.{Reading, Whole, Next, GivesLine, IsReading}
-use Rattle.dup_io.specs.declared.lines.LineFault.{LineFault}
 use Rattle.dup_names.specs.Words.{Word}
 use Rattle.dup_template.specs.declared.site.Parts.{Parts}
 use Rattle.dup_model.specs.Commands.{Command}
 use Rattle.dup_main.specs.declared.session.Session.{Session as Kept}
-use Rattle.dup_main.specs.declared.stop.Stop.{Stop}
-use Rattle.dup_main.specs.declared.stop.Stop.TheVariants as stops
 use Rattle.dup_main.specs.Commands.{command_of}
 use Rattle.dup_main.specs.Kept.{Keeps}
-use Rattle.dup_main.specs.LineStops.{stop_of}
 use Rattle.dup_model.specs.Script.{Session, first_session, after_command, answer}
-use Rattle.dup_main.specs.Stops.{WritesScript, StopsInScript}
+use Rattle.dup_main.specs.Stops.{WritesScript}
 use Rattle.dup_main.specs.Transcript.{Writes, ending}
-use Rattle.dup_main.proofs.SiteSoFar.{IsDue}
+use Rattle.dup_main.proofs.CutScripts.{Reaches}
 
 -- of a script, some lines were answered by done, and the rest goes on from a session
 pub record IsPlayed (site : Parts) (all rest : Reading) (s : Session) (before now : ℕ) (done : Word) : Type 0 where
@@ -69,60 +65,24 @@ more site (Some all) (Some r) (Some rest) old mid new before now then_ number ke
     )
 
 pub ended : (site : Parts) (a r : Option Reading) (old new : Option Word) (before now : ℕ) (kept : Kept) → Played site a r old new before now kept → IsReading r Whole
-    → WritesScript site before a old new
+    → WritesScript (Writes site first_session before) a old new
 ended site None r old new before now kept p is = tt
 ended site (Some all) None old new before now kept p is = absurd p
 ended site (Some all) (Some r) old new before now kept p is =
     let q = subst (λ (x : Reading). IsPlayed site all x p.0 before now p.2.0) is p.2.2 in
     (p.2.0 ++ [], q.ends, q.goes [] refl, subst (Appends old new) (sym (append-nil p.2.0)) p.2.1)
 
-pub cut : (stop : Stop) (site : Parts) (a r : Option Reading) (old new : Option Word) (before now : ℕ) (kept : Kept) → Played site a r old new before now kept
-    → IsDue stop r → StopsInScript stop site before a old new
-cut (stops.LineTooLong n) site None r old new before now kept p due = inl tt
-cut (stops.LineTooLong n) site (Some all) None old new before now kept p due = absurd p
-cut (stops.LineTooLong n) site (Some all) (Some r) old new before now kept p due =
-    let q = subst (λ (x : Reading). IsPlayed site all x p.0 before now p.2.0) due p.2.2 in
-    (λ is. (p.2.0, q.ends, q.goes _ refl, p.2.1), inl tt)
-cut stops.InputTooLong site None r old new before now kept p due = inl tt
-cut stops.InputTooLong site (Some all) None old new before now kept p due = absurd p
-cut stops.InputTooLong site (Some all) (Some r) old new before now kept p due =
-    let q = subst (λ (x : Reading). IsPlayed site all x p.0 before now p.2.0) due p.2.2 in
-    (λ is. (p.2.0, q.ends, q.goes _ refl, p.2.1), inl tt)
-cut stops.WriteFault site a r old new before now kept p due = absurd due
-cut stops.BadSite site a r old new before now kept p due = absurd due
-cut stops.ReadFault site None r old new before now kept p due = inl tt
-cut stops.ReadFault site (Some all) r old new before now kept p due = (λ is. absurd (cc), inl tt)
-cut stops.NoMemory site None r old new before now kept p due = inl tt
-cut stops.NoMemory site (Some all) r old new before now kept p due = (λ is. absurd (cc), inl tt)
-
--- want of memory, and a fault of writing, say nothing of what was read
-pub quiet : (stop : Stop) (site : Parts) (a : Option Reading) (old new : Option Word) (before : ℕ) → (stop ≡ stops.NoMemory) ⊎ (stop ≡ stops.WriteFault)
-    → StopsInScript stop site before a old new
-quiet (stops.LineTooLong n) site a old new before (inl e) = absurd (cc)
-quiet (stops.LineTooLong n) site a old new before (inr e) = absurd (cc)
-quiet stops.InputTooLong site a old new before (inl e) = absurd (cc)
-quiet stops.InputTooLong site a old new before (inr e) = absurd (cc)
-quiet stops.WriteFault site None old new before e = inr refl
-quiet stops.WriteFault site (Some all) old new before e = (λ is. absurd (cc), inr refl)
-quiet stops.BadSite site a old new before (inl e) = absurd (cc)
-quiet stops.BadSite site a old new before (inr e) = absurd (cc)
-quiet stops.ReadFault site a old new before (inl e) = absurd (cc)
-quiet stops.ReadFault site a old new before (inr e) = absurd (cc)
-quiet stops.NoMemory site None old new before e = inl tt
-quiet stops.NoMemory site (Some all) old new before e = (λ is. absurd (cc), inl tt)
-
-pub stops_in_script : {X : Type 0} (result : Result X Stop) (f : LineFault) (site : Parts) (a r : Option Reading) (old new : Option Word) (before now : ℕ) (kept : Kept)
-    → Played site a r old new before now kept → IsDue (stop_of f) r → IsErrAnd result (λ stop. stop ≡ stop_of f) → IfErr result (λ stop. StopsInScript stop site before a old new)
-stops_in_script (Ok x) f site a r old new before now kept p due is = tt
-stops_in_script (Err stop) f site a r old new before now kept p due is =
-    subst (λ (s : Stop). StopsInScript s site before a old new) (sym is) (cut (stop_of f) site a r old new before now kept p due)
-
-pub stops_quietly : {X : Type 0} (result : Result X Stop) (site : Parts) (a : Option Reading) (old new : Option Word) (before : ℕ)
-    → IsErrAnd result (λ stop. (stop ≡ stops.NoMemory) ⊎ (stop ≡ stops.WriteFault)) → IfErr result (λ stop. StopsInScript stop site before a old new)
-stops_quietly (Ok x) site a old new before is = tt
-stops_quietly (Err stop) site a old new before is = quiet stop site a old new before is
-
-pub stops_on_write : {X : Type 0} (result : Result X Stop) (site : Parts) (a : Option Reading) (old new : Option Word) (before : ℕ)
-    → IsErrAnd result (λ stop. stop ≡ stops.WriteFault) → IfErr result (λ stop. StopsInScript stop site before a old new)
-stops_on_write (Ok x) site a old new before is = tt
-stops_on_write (Err stop) site a old new before is = quiet stop site a old new before (inr is)
+-- what was answered so far, where the rest is too long
+pub reaches : (site : Parts) (a r : Option Reading) (old new : Option Word) (before now : ℕ) (kept : Kept) → Played site a r old new before now kept
+    → Reaches (Writes site first_session before) a r old new
+reaches site None r old new before now kept p = tt
+reaches site (Some all) None old new before now kept p = absurd p
+reaches site (Some all) (Some r) old new before now kept p = (
+  p.2.0,
+  p.2.1,
+  record {
+    ends = p.2.2.ends;
+    line = λ n is. (subst (λ (x : Reading). IsPlayed site all x p.0 before now p.2.0) is p.2.2).goes _ refl;
+    input = λ is. (subst (λ (x : Reading). IsPlayed site all x p.0 before now p.2.0) is p.2.2).goes _ refl;
+  },
+)

@@ -1,9 +1,7 @@
 -- The sites that can be played today: one kind, one template of it that only says texts and shows fields, and one family of that template.
-use Rattle.std.specs.Prelude.{ℕ, Bool, true, false, ◌&&◌, List, [], ◌∷◌, Option, Some, None, Result, Ok, Err, if◌then◌else◌}
+use Rattle.std.specs.Prelude.{Bool, true, false, ◌&&◌, List, [], ◌∷◌, Option, Some, None}
 use Rattle.std.specs.List.{list_all}
-use Rattle.std.specs.Option.{is_none}
 use Rattle.dup_names.specs.Words.{Word, same}
-use Rattle.dup_template.specs.Good.{site_fault}
 use Rattle.dup_template.specs.declared.site.Parts.{Parts}
 use Rattle.dup_template.specs.declared.site.KindPart.{KindPart}
 use Rattle.dup_template.specs.declared.site.TemplatePart.{TemplatePart}
@@ -11,7 +9,6 @@ use Rattle.dup_template.specs.declared.site.PageRule.{PageRule}
 use Rattle.dup_template.specs.declared.site.PageRule.TheVariants.{Family}
 use Rattle.dup_template.specs.declared.statement.Statement.{Statement, fold-Statement}
 use Rattle.dup_template.specs.declared.statement.Statement.TheOpen.{Statement-F}
-use Rattle.dup_site.specs.Spelling.{text_says}
 
 abbrev pub simple_step : Statement-F Bool → Bool
 simple_step (Statement-F.Say words) = true
@@ -42,11 +39,3 @@ is_kind_with _ templates rules = false
 
 abbrev pub is_first_form : Parts → Bool
 is_first_form site = is_kind_with site.kinds site.templates site.pages
-
-abbrev pub if_first_form : Result Parts ℕ → Option Parts
-if_first_form (Err line) = None
-if_first_form (Ok site) = if is_none (site_fault site) && is_first_form site then Some site else None
-
--- the good site of this form that a text says, if it says one
-abbrev pub site_of : Word → Option Parts
-site_of text = if_first_form (text_says text)

@@ -1,10 +1,12 @@
+pub mod BadSites
 pub mod Commands
 pub mod FirstForm
 pub mod Kept
 pub mod LineStops
 pub mod Stops
+pub mod Tasks
 pub mod Transcript
-pub mod Rendering
 pub mod RowPages
 pub mod RowCounts
 pub mod Headline
+pub mod RenderedPages

@@ -8,10 +8,10 @@ use Rattle.dup_template.specs.declared.site.PageRule.{PageRule}
 use Rattle.dup_template.specs.declared.site.PageRule.TheVariants.{Family}
 use Rattle.dup_model.specs.Content.{Content, IsOf, keys}
 use Rattle.dup_model.specs.Pages.{live}
+use Rattle.dup_model.specs.Show.{show}
 use Rattle.dup_model.specs.Tables.{TablesRise}
 use Rattle.dup_main.specs.FirstForm.{is_first_form}
 use Rattle.dup_main.specs.Kept.{plain_look}
-use Rattle.dup_main.specs.Rendering.{row_bytes}
 use Rattle.dup_model.specs.Script.{whole_site}
 
 -- the object of a row's page
@@ -27,7 +27,7 @@ row_path site key = prefix_in site.pages ++ 47 ∷ key
 
 -- a row's page: its path and its look
 abbrev pub row_page : Parts → Content → Word → Path × Look
-row_page site c key = (row_path site key, plain_look (row_object key) (row_bytes c key))
+row_page site c key = (row_path site key, plain_look (row_object key) (show c (row_object key)))
 
 -- what a content of such a site has: a page for each row, which embeds nothing and links to nothing
 pub record HasRowPages (site : Parts) (c : Content) : Type 0 where

@@ -1,13 +1,14 @@
 -- Why a run stops, and what is written then.
-use Rattle.std.specs.Prelude.{◌≡◌, ◌⊎◌, ℕ, ◌+◌, Bool, true, false, [], ◌++◌, Option, Some, None}
+use Rattle.std.specs.Prelude.{◌≡◌, ◌⊎◌, ℕ, ◌+◌, Bool, true, false, [], ◌++◌, Option, Some, None, Result, Err}
 use Rattle.std.specs.Io.KnownBytes.{Appends}
 use Rattle.dup_io.specs.Reading.{Reading, reading}
 use Rattle.dup_names.specs.Words.{Word}
 use Rattle.dup_template.specs.declared.site.Parts.{Parts}
 use Rattle.dup_main.specs.declared.stop.Stop.{Stop}
-use Rattle.dup_main.specs.declared.stop.Stop.TheVariants.{ReadFault, WriteFault, BadSite, NoMemory, LineTooLong, InputTooLong}
-use Rattle.dup_model.specs.Script.{first_session}
-use Rattle.dup_main.specs.Transcript.{Writes, Plays, bad_site, too_long_line, too_long_input, too_long, site_text, site_lines, site_is_read, script, ending}
+use Rattle.dup_main.specs.declared.stop.Stop.TheVariants.{ReadFault, WriteFault, BadSite, NotBuilt, NoMemory, LineTooLong, InputTooLong}
+use Rattle.dup_main.specs.BadSites.{bad_site_text, not_built_site}
+use Rattle.dup_main.specs.declared.task.Task.{Task}
+use Rattle.dup_main.specs.Transcript.{IsTranscript, too_long_line, too_long_input, too_long, site_text, site_lines, site_is_read, script, ending}
 
 -- a line or the input that is too long stands in the reading
 abbrev pub IsTooLong : Stop → Word → Type 0
@@ -16,12 +17,14 @@ IsTooLong InputTooLong text = text ≡ too_long_input
 IsTooLong ReadFault text = Unit {0}
 IsTooLong NoMemory text = Unit {0}
 IsTooLong WriteFault text = ⊥
-IsTooLong BadSite text = ⊥
+IsTooLong (BadSite why) text = ⊥
+IsTooLong NotBuilt text = ⊥
 
 -- a stop that reading lines may give
 abbrev pub IsReadingStop : Stop → Type 0
 IsReadingStop WriteFault = ⊥
-IsReadingStop BadSite = ⊥
+IsReadingStop (BadSite why) = ⊥
+IsReadingStop NotBuilt = ⊥
 IsReadingStop _ = Unit {0}
 
 abbrev pub cuts : Stop → Bool
@@ -55,37 +58,41 @@ StopsInSite stop (Some all) = (cuts stop ≡ true → (site_is_read all ≡ fals
 abbrev pub stop_text : Stop → Word
 stop_text (LineTooLong number) = too_long_line number
 stop_text InputTooLong = too_long_input
-stop_text BadSite = bad_site
+stop_text (BadSite why) = bad_site_text why
+stop_text NotBuilt = not_built_site
 stop_text _ = []
 
 abbrev pub stop_status : Stop → ℕ
-stop_status BadSite = 5
+stop_status (BadSite why) = 5
+stop_status NotBuilt = 5
 stop_status _ = 7
 
--- the answers to a script, behind a number of lines, were written whole
-abbrev pub WritesScript : Parts → ℕ → Option Reading → Option Word → Option Word → Type 0
-WritesScript site number None old new = Unit {0}
-WritesScript site number (Some all) old new = (out : Word) × (ending all ≡ 0) × Writes site first_session number all out × Appends old new out
+-- what a task may write for the lines behind the site text was written whole
+abbrev pub WritesScript : (Reading → Word → Type 0) → Option Reading → Option Word → Option Word → Type 0
+WritesScript may None old new = Unit {0}
+WritesScript may (Some all) old new = (out : Word) × (ending all ≡ 0) × may all out × Appends old new out
 
--- a line that is too long ends the script: the answers before it were written
-abbrev pub StopsInScript : Stop → Parts → ℕ → Option Reading → Option Word → Option Word → Type 0
-StopsInScript stop site number None old new = IsReadingStop stop ⊎ (stop ≡ WriteFault)
-StopsInScript stop site number (Some all) old new =
-    (cuts stop ≡ true → (done : Word) × (ending all ≡ 7) × Writes site first_session number all (done ++ stop_text stop) × Appends old new done)
+-- a line that is too long ends these lines: the answers before it were written
+abbrev pub StopsInScript : Stop → (Reading → Word → Type 0) → Option Reading → Option Word → Option Word → Type 0
+StopsInScript stop may None old new = IsReadingStop stop ⊎ (stop ≡ WriteFault)
+StopsInScript stop may (Some all) old new =
+    (cuts stop ≡ true → (done : Word) × (ending all ≡ 7) × may all (done ++ stop_text stop) × Appends old new done)
     × (IsReadingStop stop ⊎ (stop ≡ WriteFault))
 
 abbrev pub writes : Stop → Bool
-writes BadSite = true
+writes (BadSite why) = true
+writes NotBuilt = true
 writes stop = cuts stop
 
 -- a run stops where only its last line is to be written
-abbrev pub StopsAt : Stop → Option Word → Option Word → Option Word → Type 0
-StopsAt stop None old new = Unit {0}
-StopsAt stop (Some input) old new =
-    writes stop ≡ true → (done : Word) × Plays (reading 0 0 input) (stop_status stop) (done ++ stop_text stop) × Appends old new done
+abbrev pub StopsAt : Task → Stop → Option Word → Option Word → Option Word → Type 0
+StopsAt task stop None old new = Unit {0}
+StopsAt task stop (Some input) old new =
+    writes stop ≡ true → (done : Word) × IsTranscript task (reading 0 0 input) (stop_status stop) (done ++ stop_text stop) × Appends old new done
 
--- a text that is no site of the first form, or want of memory
-abbrev pub BarsSite : Stop → Option Parts → Type 0
-BarsSite BadSite site = site ≡ None
+-- a text without a site that the task takes, whose line stands in its place; or want of memory
+abbrev pub BarsSite : Stop → Result Parts Word → Type 0
+BarsSite (BadSite why) site = site ≡ Err (bad_site_text why)
+BarsSite NotBuilt site = site ≡ Err not_built_site
 BarsSite NoMemory site = Unit {0}
 BarsSite _ site = ⊥

@@ -1,16 +1,21 @@
--- What `play` writes for an input, and how it ends.
-use Rattle.std.specs.Prelude.{◌≡◌, ℕ, ◌+◌, Bool, true, false, List, [], ◌∷◌, ◌++◌, codes, if◌then◌else◌, Option, Some, None, String, string_bytes}
+-- What `play`, `check` and `render` write for an input, and how they end.
+use Rattle.std.specs.Prelude.{◌≡◌, ℕ, ◌+◌, Bool, true, false, List, [], ◌∷◌, ◌++◌, codes, if◌then◌else◌, nat_eq, Option, Some, None, Result, Ok, Err}
 use Rattle.std.specs.Fmt.{decimal}
 use Rattle.std.specs.Io.KnownBytes.{Appends}
-use Rattle.std.specs.declared.alloc.Global.{Global}
 use Rattle.dup_io.specs.Reading.{Reading, Whole, Next, LongLine, LongInput, reading}
 use Rattle.dup_names.specs.Words.{Word, same}
 use Rattle.dup_template.specs.declared.site.Parts.{Parts}
 use Rattle.dup_main.specs.Commands.{command_of}
+use Rattle.dup_site.specs.Spelling.{written}
+use Rattle.dup_main.specs.BadSites.{checked_site, played_site}
 use Rattle.dup_model.specs.Commands.{Command}
-use Rattle.dup_model.specs.Transcript.{Answers}
-use Rattle.dup_main.specs.FirstForm.{site_of}
 use Rattle.dup_model.specs.Script.{Session, first_session, line}
+use Rattle.dup_model.specs.Transcript.{Answers}
+use Rattle.dup_model.specs.Commits.{Commit}
+use Rattle.dup_model.specs.Content.{Content}
+use Rattle.dup_main.specs.RenderedPages.{render_answers, last_content, pages_text}
+use Rattle.dup_main.specs.declared.task.Task.{Task}
+use Rattle.dup_main.specs.declared.task.Task.TheVariants.{Play, Check, Render}
 
 abbrev pub usage : Word
 usage = line (codes "usage: dup_top play | check | render | games N | serve PORT NODES CAPACITY MODE WORKERS")
@@ -18,19 +23,11 @@ usage = line (codes "usage: dup_top play | check | render | games N | serve PORT
 abbrev pub site_ok : Word
 site_ok = line (codes "site ok")
 
-abbrev pub bad_site : Word
-bad_site = line (codes "bad site: not built")
-
 abbrev pub too_long_line : ℕ → Word
 too_long_line number = line (codes "too long: line " ++ decimal number)
 
 abbrev pub too_long_input : Word
 too_long_input = line (codes "too long: input")
-
--- the words of a command line that is known
-abbrev pub IsPlay : List (String Global) → Type 0
-IsPlay (word ∷ []) = string_bytes word ≡ codes "play"
-IsPlay words = ⊥
 
 -- the line that ends a site text
 abbrev pub is_end : Word → Bool
@@ -81,21 +78,56 @@ commands _ = []
 abbrev pub Writes : Parts → Session → ℕ → Reading → Word → Type 0
 Writes site s number input out = Answers site s number (commands input) (too_long input) out
 
--- a site: `site ok`, and then the answers to the script
-abbrev pub PlaysSite : Option Parts → Reading → ℕ → Word → Type 0
-PlaysSite None input status out = (status ≡ 5) × (out ≡ bad_site)
-PlaysSite (Some site) input status out =
+-- a site is played: `site ok`, and then the answers to the script
+abbrev pub Plays : Parts → Reading → ℕ → Word → Type 0
+Plays site input status out =
     (status ≡ ending input) × ((more : Word) × (out ≡ site_ok ++ more) × Writes site first_session (site_lines input) (script input) more)
 
-abbrev pub PlaysRead : Bool → Reading → ℕ → Word → Type 0
-PlaysRead false input status out = (status ≡ 7) × (out ≡ too_long input)
-PlaysRead true input status out = PlaysSite (site_of (site_text input)) input status out
+-- what stands behind the answers of a render: the pages of the last content, where nothing is too long
+abbrev pub closing : Content → Reading → Word
+closing c input = if nat_eq (ending input) 0 then pages_text c else too_long input
+
+-- what a render writes for the lines that it reads, behind these commits and so many lines
+abbrev pub rendered : Parts → List Commit → ℕ → Reading → Word
+rendered site commits number input =
+    render_answers site commits number (commands input) ++ closing (last_content site commits (commands input)) input
+
+-- what is written for the lines behind the site text, from the site without rows
+abbrev pub RendersLines : Parts → ℕ → Reading → Word → Type 0
+RendersLines site number input out = out ≡ rendered site [] number input
+
+-- a site is rendered: the answers to the lines behind its text, and then each page
+abbrev pub Renders : Parts → Reading → ℕ → Word → Type 0
+Renders site input status out = (status ≡ ending input) × RendersLines site (site_lines input) (script input) out
+
+-- a site is checked: its canonical text, whatever stands behind the site text
+abbrev pub Checks : Parts → ℕ → Word → Type 0
+Checks site status out = (status ≡ 0) × (out ≡ written site)
+
+abbrev pub Does : Task → Parts → Reading → ℕ → Word → Type 0
+Does Play site input status out = Plays site input status out
+Does Check site input status out = Checks site status out
+Does Render site input status out = Renders site input status out
+
+-- the site of a text that a task takes, or the line that is written in its place
+abbrev pub site_for : Task → Word → Result Parts Word
+site_for Play text = played_site text
+site_for Check text = checked_site text
+site_for Render text = checked_site text
+
+abbrev pub DoesSite : Task → Result Parts Word → Reading → ℕ → Word → Type 0
+DoesSite task (Ok site) input status out = Does task site input status out
+DoesSite task (Err why) input status out = (status ≡ 5) × (out ≡ why)
+
+abbrev pub DoesRead : Task → Bool → Reading → ℕ → Word → Type 0
+DoesRead task false input status out = (status ≡ 7) × (out ≡ too_long input)
+DoesRead task true input status out = DoesSite task (site_for task (site_text input)) input status out
 
 -- the transcript of an input: the status, and all that is written
-abbrev pub Plays : Reading → ℕ → Word → Type 0
-Plays input status out = PlaysRead (site_is_read input) input status out
+abbrev pub IsTranscript : Task → Reading → ℕ → Word → Type 0
+IsTranscript task input status out = DoesRead task (site_is_read input) input status out
 
 -- where source and sink tell their bytes, the sink's grew by a transcript of the source's
-abbrev pub WritesTranscript : Option Word → Option Word → Option Word → ℕ → Type 0
-WritesTranscript None old new status = Unit {0}
-WritesTranscript (Some input) old new status = (out : Word) × Plays (reading 0 0 input) status out × Appends old new out
+abbrev pub WritesTranscript : Task → Option Word → Option Word → Option Word → ℕ → Type 0
+WritesTranscript task None old new status = Unit {0}
+WritesTranscript task (Some input) old new status = (out : Word) × IsTranscript task (reading 0 0 input) status out × Appends old new out

@@ -5,7 +5,6 @@ ghost use Rattle.dup_model.specs.Content.{body_at, table};
 ghost use Rattle.dup_main.specs.FirstForm.{is_simple};
 ghost use Rattle.dup_main.specs.RowCounts.{IsSimple, is_read_anew, is_renewed, renewed_count};
 
-use crate::render::{body_of, field_place, fields_of};
 use dup_names::Key;
 use dup_records::Content;
 use dup_template::Statement;
@@ -16,6 +15,16 @@ fn differ(a: &[u8], b: &[u8]) -> bool
     a != b
 }
 
+/// The statements of the one template.
+fn body_of(content: &Content) -> &[Statement]
+    ensures { result.now ≡ body_at content.now 0 }
+{
+    match content.site().templates().first() {
+        None => &[],
+        Some(template) => template.body.items(),
+    }
+}
+
 #[tactic(auto, using(crate::proofs::RowReads::simple_reads))]
 fn is_read_anew(a: &Content, b: &Content, key: &Key, statement: &Statement) -> bool
     requires { is_simple statement.now ≡ true }
@@ -23,7 +32,7 @@ fn is_read_anew(a: &Content, b: &Content, key: &Key, statement: &Statement) -> b
 {
     match statement {
         Statement::Field(name) => {
-            let field = field_place(fields_of(a), name) as u16;
+            let field = a.field_number(0, name);
             differ(a.text(0, key, field), b.text(0, key, field))
         }
         _ => false,

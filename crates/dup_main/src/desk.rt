@@ -1,14 +1,18 @@
-ghost use Rattle.std.specs.Prelude.{◌≡◌, ◌≢◌, ◌⊎◌, ◌↔◌, ◌++◌, ◌∷◌, [], IsTrue, IfOk, codes, string_bytes, true};
-ghost use Rattle.std.specs.Fmt.{decimal};
+ghost use Rattle.std.specs.Prelude.{◌≡◌, ◌≢◌, ◌⊎◌, IfErr, IfOk, IsErrOf, IsSome, IsSomeAnd, None, OnOk, Some, Err, string_bytes, true};
 ghost use Rattle.std.specs.Io.KnownBytes.{Appends, IsAtEnd};
 ghost use Rattle.dup_io.specs.Causes.{Rose};
 ghost use Rattle.dup_main.specs.Headline.{EditionsAreRendered, FoundPagesAreRendered, SettledEditionsAreWhole};
-ghost use Rattle.dup_main.specs.Stops.{stop_status, stop_text, writes};
-ghost use Rattle.dup_main.specs.Transcript.{IsPlay, WritesTranscript, too_long_line, usage};
+ghost use Rattle.dup_main.specs.Stops.{StopsAt, stop_status, stop_text, writes};
+ghost use Rattle.dup_main.specs.Tasks.{task_of};
+ghost use Rattle.dup_main.specs.Transcript.{WritesTranscript, too_long_line, usage};
 
+use crate::bad_site::bad_site_text;
+use crate::check::check_site;
 use crate::laws::headline;
 use crate::play::play;
+use crate::render_site::render_site;
 use crate::stop::Stop;
+use crate::task::{Task, task_of};
 use dup_io::{Sink, Source, put_all};
 use std::alloc::{AllocError, Global};
 use std::marker::Sync;
@@ -49,7 +53,11 @@ fn finish<K: Sink>(alloc: Global, out: &mut K, stop: Stop) -> u8
     match stop {
         Stop::ReadFault => end(out, 3, b"read fault\n"),
         Stop::WriteFault => 4,
-        Stop::BadSite => end(out, 5, b"bad site: not built\n"),
+        Stop::BadSite(why) => match bad_site_text(alloc, why) {
+            Ok(text) => end(out, 5, &text),
+            Err(_) => 6,
+        },
+        Stop::NotBuilt => end(out, 5, b"bad site: not built\n"),
         Stop::NoMemory => 6,
         Stop::LineTooLong(number) => match too_long_line(alloc, number) {
             Ok(text) => end(out, 7, text.as_bytes()),
@@ -59,26 +67,38 @@ fn finish<K: Sink>(alloc: Global, out: &mut K, stop: Stop) -> u8
     }
 }
 
-/// Whether the words are a command line that is known.
-fn is_play(words: &[String]) -> bool
-    ensures { IsTrue result ↔ IsPlay words.now }
+/// Does what a task is.
+fn perform<S: Source, K: Sink>(
+    alloc: Global,
+    task: Task,
+    input: &mut S,
+    out: &mut K,
+) -> Result<(), Stop>
+    ensures written { OnOk result (WritesTranscript task (S.left input.old) (K.written out.old) (K.written out.new) 0) }
+    ensures at_end { OnOk result ((task ≡ Task.Play) ⊎ (task ≡ Task.Render) → IsAtEnd (S.left input.new)) }
+    ensures stopped { IfErr result (λ stop. StopsAt task stop (S.left input.old) (K.written out.old) (K.written out.new)) }
+    ensures read_fault { IsErrOf result Stop.ReadFault → Rose (S.faults input.old) (S.faults input.new) }
+    ensures no_read_fault { result ≢ Err Stop.ReadFault → S.faults input.new ≡ S.faults input.old }
+    ensures write_fault { IsErrOf result Stop.WriteFault → Rose (K.faults out.old) (K.faults out.new) }
+    ensures no_write_fault { result ≢ Err Stop.WriteFault → K.faults out.new ≡ K.faults out.old }
 {
-    match words {
-        [word] => word.as_str() == "play",
-        _ => false,
+    match task {
+        Task::Play => play(alloc, input, out),
+        Task::Check => check_site(alloc, input, out),
+        Task::Render => render_site(alloc, input, out),
     }
 }
 
 /// Does what the words say, and gives the status. The words are those after the program's own name.
 ///
-/// - 0: `play` read its input to the end and wrote its transcript.
+/// - 0: `play` read its input to the end and wrote its transcript; `check` read a good site text, up to `---` or the end, and wrote its canonical text; `render` read its input to the end and wrote each page of the last content.
 /// - 2: the words are no command line that is known; nothing was read, and the usage line was written.
 /// - 3: the source failed; 4: the sink failed, whatever else was found.
-/// - 5: the site text was read whole, and is no good site of the form that can be played.
+/// - 5: the site text was read whole, and is no good site, or for `play` none of the form that can be played: the line says why.
 /// - 6: want of memory.
 /// - 7: a line of over 262,144 bytes was read, or over 2^30 bytes of input.
 ///
-/// A settle costs what rendering each row's page costs; a commit copies the list of the kind's rows; a request is a look-up.
+/// A settle costs what rendering each row's page costs, and a render ends with each page from scratch; a commit copies the list of the kind's rows; a request is a look-up.
 pub fn desk_main<R: Threads + Sync, S: Source, K: Sink>(
     _rt: &R,
     alloc: Global,
@@ -87,20 +107,20 @@ pub fn desk_main<R: Threads + Sync, S: Source, K: Sink>(
     out: &mut K,
 ) -> u8
     // Wrong words: nothing is read, and the usage line is written.
-    ensures bad_words { ¬ (IsPlay words.now) → (result ≡ 2) ⊎ (result ≡ 4) }
-    ensures nothing_read { ¬ (IsPlay words.now) → input.new ≡ input.old }
-    ensures usage { result ≡ 2 → ¬ (IsPlay words.now) × Appends (K.written out.old) (K.written out.new) usage }
-    // What is written is the transcript of the bytes read, and the status is its own.
-    ensures whole { result ≡ 0 → IsPlay words.now × WritesTranscript (S.left input.old) (K.written out.old) (K.written out.new) 0 }
-    ensures at_end { result ≡ 0 → IsAtEnd (S.left input.new) }
-    ensures bad_site { result ≡ 5 → IsPlay words.now × WritesTranscript (S.left input.old) (K.written out.old) (K.written out.new) 5 }
-    ensures too_long { result ≡ 7 → IsPlay words.now × WritesTranscript (S.left input.old) (K.written out.old) (K.written out.new) 7 }
+    ensures bad_words { task_of words.now ≡ None → (result ≡ 2) ⊎ (result ≡ 4) }
+    ensures nothing_read { task_of words.now ≡ None → input.new ≡ input.old }
+    ensures usage { result ≡ 2 → (task_of words.now ≡ None) × Appends (K.written out.old) (K.written out.new) usage }
+    // What is written is the task's transcript of the bytes read, and the status is its own.
+    ensures whole { result ≡ 0 → IsSomeAnd (task_of words.now) (λ task. WritesTranscript task (S.left input.old) (K.written out.old) (K.written out.new) 0) }
+    ensures at_end { result ≡ 0 → (task_of words.now ≡ Some Task.Play) ⊎ (task_of words.now ≡ Some Task.Render) → IsAtEnd (S.left input.new) }
+    ensures bad_site { result ≡ 5 → IsSomeAnd (task_of words.now) (λ task. WritesTranscript task (S.left input.old) (K.written out.old) (K.written out.new) 5) }
+    ensures too_long { result ≡ 7 → IsSomeAnd (task_of words.now) (λ task. WritesTranscript task (S.left input.old) (K.written out.old) (K.written out.new) 7) }
     // A fault is answered only where it happened, and none is passed over.
-    ensures read_fault { result ≡ 3 → IsPlay words.now × Rose (S.faults input.old) (S.faults input.new) }
+    ensures read_fault { result ≡ 3 → IsSome (task_of words.now) × Rose (S.faults input.old) (S.faults input.new) }
     ensures write_fault { result ≡ 4 → Rose (K.faults out.old) (K.faults out.new) }
     ensures no_read_fault { result ≢ 3 → result ≢ 4 → S.faults input.new ≡ S.faults input.old }
     ensures no_write_fault { result ≢ 4 → K.faults out.new ≡ K.faults out.old }
-    ensures memory { result ≡ 6 → IsPlay words.now }
+    ensures memory { result ≡ 6 → IsSome (task_of words.now) }
     // Over every script: each page of an edition, and each page that is found, is rendered over one version.
     ensures editions { EditionsAreRendered }
     ensures found { FoundPagesAreRendered }
@@ -108,10 +128,10 @@ pub fn desk_main<R: Threads + Sync, S: Source, K: Sink>(
     ensures others { (result ≡ 0) ⊎ (result ≡ 2) ⊎ (result ≡ 3) ⊎ (result ≡ 4) ⊎ (result ≡ 5) ⊎ (result ≡ 6) ⊎ (result ≡ 7) }
 {
     headline();
-    if !is_play(words) {
+    let Some(task) = task_of(words) else {
         return end(out, 2, USAGE);
-    }
-    match play(alloc, input, out) {
+    };
+    match perform(alloc, task, input, out) {
         Ok(()) => 0,
         Err(stop) => finish(alloc, out, stop),
     }

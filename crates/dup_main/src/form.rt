@@ -1,11 +1,12 @@
-ghost use Rattle.std.specs.Prelude.{◌≡◌, Some, IfOk, IfErr, true};
+ghost use Rattle.std.specs.Prelude.{◌≡◌, Ok, IfOk, IfErr, true};
 ghost use Rattle.std.specs.List.{list_all};
-ghost use Rattle.dup_main.specs.FirstForm.{is_family_of, is_first_form, is_kind, is_simple, is_template_of, site_of};
+ghost use Rattle.dup_main.specs.BadSites.{checked_site, played_site};
+ghost use Rattle.dup_main.specs.FirstForm.{is_family_of, is_first_form, is_kind, is_simple, is_template_of};
 ghost use Rattle.dup_main.specs.Stops.{BarsSite};
 
 use crate::stop::Stop;
 use dup_names::Name;
-use dup_site::{SiteTextRefusal, read_site};
+use dup_site::read_site;
 use dup_template::{PageRule, Site, Statement, TemplatePart};
 use std::alloc::Global;
 
@@ -66,21 +67,24 @@ fn is_first_form(site: &Site) -> bool
     }
 }
 
-/// The site of a text, where it is a good one that can be played today.
-pub(crate) fn first_site(alloc: Global, text: &[u8]) -> Result<Site, Stop>
-    ensures site { IfOk result (λ site. site_of text.now ≡ Some site) }
-    ensures form { IfOk result (λ site. is_first_form site ≡ true) }
-    ensures stopped { IfErr result (λ stop. BarsSite stop (site_of text.now)) }
+/// The good site that a text says.
+pub(crate) fn good_site(alloc: Global, text: &[u8]) -> Result<Site, Stop>
+    ensures site { IfOk result (λ site. checked_site text.now ≡ Ok site) }
+    ensures stopped { IfErr result (λ stop. BarsSite stop (checked_site text.now)) }
 {
-    match read_site(alloc, text) {
-        Ok(site) => {
-            if is_first_form(&site) {
-                Ok(site)
-            } else {
-                Err(Stop::BadSite)
-            }
-        }
-        Err(SiteTextRefusal::NoMemory) => Err(Stop::NoMemory),
-        Err(_) => Err(Stop::BadSite),
+    Ok(read_site(alloc, text)?)
+}
+
+/// The good site that a text says, where it is one that can be played today.
+pub(crate) fn first_site(alloc: Global, text: &[u8]) -> Result<Site, Stop>
+    ensures site { IfOk result (λ site. played_site text.now ≡ Ok site) }
+    ensures form { IfOk result (λ site. is_first_form site ≡ true) }
+    ensures stopped { IfErr result (λ stop. BarsSite stop (played_site text.now)) }
+{
+    let site = good_site(alloc, text)?;
+    if is_first_form(&site) {
+        Ok(site)
+    } else {
+        Err(Stop::NotBuilt)
     }
 }

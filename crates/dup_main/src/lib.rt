@@ -1,6 +1,9 @@
 //! The top call of the command line.
 #![tactic(auto)]
 
+mod all_pages;
+mod bad_site;
+mod check;
 mod command;
 mod counts;
 mod desk;
@@ -10,11 +13,13 @@ mod laws;
 mod number;
 mod play;
 mod publish;
-mod render;
+mod render_lines;
+mod render_site;
 mod script;
 mod session;
 mod site_part;
 mod stop;
+mod task;
 mod texts;
 
 pub use desk::desk_main;

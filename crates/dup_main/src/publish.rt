@@ -6,9 +6,9 @@ ghost use Rattle.dup_main.specs.RowPages.{row_object, row_page, row_path};
 ghost use Rattle.dup_model.specs.Script.{Published, published, with_page};
 
 use crate::edition::{Edition, Rendered};
-use crate::render::render;
 use dup_names::{Key, NoMemory, Obj, Path};
 use dup_records::Content;
+use dup_render::show_plain;
 use dup_template::{Site, path_of};
 use std::alloc::Global;
 
@@ -30,6 +30,7 @@ fn row_path(site: &Site, key: &Key) -> Path
 }
 
 /// Renders the page of a row from scratch, and publishes it where the edition has another or lacks it.
+#[tactic(auto, using(crate::proofs::RowPageLemmas::row_job))]
 fn publish_row(
     alloc: Global,
     site: &Site,
@@ -44,10 +45,11 @@ fn publish_row(
     ensures published { OnOk result ((p : Published) → KeepsPages p edition.old → KeepsPages (with_page version p (row_page site.now content.now key.now)) edition.new) }
     ensures grows { (edition.old.number ≤ edition.new.number) × (edition.new.number ≤ edition.old.number + 1) }
 {
+    let obj = row_object(key);
     let page = Rendered {
-        obj: row_object(key),
+        obj,
         version,
-        bytes: render(alloc, content, key)?,
+        bytes: show_plain(alloc, content, &obj)?,
     };
     edition.publish(row_path(site, key), page)
 }

@@ -16,8 +16,8 @@ use dup_template::Site;
 use std::alloc::Global;
 use std::sync::Arc;
 
-// The most rows that a kind may have.
-const ROWS: u32 = 4_096;
+/// The most rows that a kind may have.
+pub(crate) const ROWS: u32 = 4_096;
 
 /// What the commands of a script work on.
 #[derive(Drop)]

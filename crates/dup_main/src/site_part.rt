@@ -1,17 +1,17 @@
-ghost use Rattle.std.specs.Prelude.{◌≡◌, ◌≢◌, ◌++◌, ◌∷◌, [], ℕ, IfOk, IfErr, OnOk, IsErrOf, Err, None, Some, if◌then◌else◌};
+ghost use Rattle.std.specs.Prelude.{◌≡◌, ◌≢◌, ◌++◌, IfOk, IfErr, OnOk, IsErrOf, Err, None, Some, if◌then◌else◌};
 ghost use Rattle.std.specs.Bool.{OnFalse, OnTrue};
 ghost use Rattle.dup_io.specs.Reading.{Whole};
 ghost use Rattle.std.specs.Io.KnownBytes.{IsAtEnd};
 ghost use Rattle.dup_io.specs.Causes.{Rose};
 ghost use Rattle.dup_io.specs.Lines.{to_read, source_of, reference_of, number_of, fault_of};
-ghost use Rattle.dup_names.specs.Words.{same};
 ghost use Rattle.dup_model.specs.Script.{line as line_text};
 ghost use Rattle.dup_main.specs.Stops.{CountsSite, ReadsSite, StopsInSite};
 ghost use Rattle.dup_main.specs.Transcript.{is_end};
 
 use crate::stop::Stop;
 use dup_io::{Lines, Source};
-use std::alloc::{AllocError, Global};
+use dup_names::NoMemory;
+use std::alloc::Global;
 
 /// A site text, and whether a script follows it.
 #[derive(Drop)]
@@ -27,12 +27,11 @@ fn is_end(line: &[u8]) -> bool
     line == b"---".as_slice()
 }
 
-fn put_line(line: &[u8], text: &mut Vec<u8>) -> Result<(), Stop>
-    ensures text { OnOk result (text.new.items ≡ text.old.items ++ line_text line.now) }
-    ensures err { IfErr result (λ stop. stop ≡ Stop.NoMemory) }
+fn put_line(line: &[u8], text: &mut Vec<u8>) -> Result<(), NoMemory>
+    ensures { OnOk result (text.new.items ≡ text.old.items ++ line_text line.now) }
 {
-    text.extend_from_slice(line).map_err(|_| Stop::NoMemory)?;
-    text.push(b'\n').map_err(|_| Stop::NoMemory)?;
+    text.extend_from_slice(line)?;
+    text.push(b'\n')?;
     Ok(())
 }
 

@@ -2,13 +2,15 @@ ghost use Rattle.std.specs.Prelude.{◌≡◌};
 
 use dup_io::{Failed, LineFault};
 use dup_names::NoMemory;
+use dup_site::SiteTextRefusal;
 
 /// Why a run ends before it has done all.
-#[derive(Clone, Copy, Debug, PartialEq, Eq)]
+#[derive(Clone, Copy, PartialEq, Eq)]
 pub(crate) enum Stop {
     ReadFault,
     WriteFault,
-    BadSite,
+    BadSite(SiteTextRefusal),
+    NotBuilt,
     NoMemory,
     LineTooLong(u64),
     InputTooLong,
@@ -31,6 +33,19 @@ impl From<NoMemory> for Stop {
 
     fn from(_: NoMemory) -> Stop {
         Stop::NoMemory
+    }
+}
+
+impl From<SiteTextRefusal> for Stop {
+    ghost use Rattle.dup_main.specs.LineStops.{site_stop};
+
+    ghost from_gives = { λ why stop. stop ≡ site_stop why };
+
+    fn from(why: SiteTextRefusal) -> Stop {
+        match why {
+            SiteTextRefusal::NoMemory => Stop::NoMemory,
+            why => Stop::BadSite(why),
+        }
     }
 }
 

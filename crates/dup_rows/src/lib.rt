@@ -2,6 +2,10 @@
 #![tactic(auto)]
 
 #[cfg(test)]
+mod causes;
+#[cfg(test)]
+mod checks;
+#[cfg(test)]
 mod faults;
 #[cfg(test)]
 mod limits;
@@ -9,6 +13,8 @@ mod limits;
 mod lines;
 #[cfg(test)]
 mod plays;
+#[cfg(test)]
+mod renders;
 #[cfg(test)]
 mod settles;
 #[cfg(test)]

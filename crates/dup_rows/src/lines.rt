@@ -77,12 +77,20 @@ found 1 1 miss 33
 
 #[test]
 fn other_words_read_nothing(rt: HostRuntime) -> Result<(), Fail> {
-    let all: [&[&str]; 6] = [
+    let all: [&[&str]; 14] = [
         &[],
-        &["games", "1"],
-        &["check"],
+        &["games", "3"],
+        &["serve", "8080", "2", "4", "update", "1"],
+        &["render", "x"],
+        &["check", "x"],
+        &["check", "check"],
+        &["check", "play"],
+        &["play", "check"],
         &["play", "now"],
         &["Play"],
+        &["Check"],
+        &["check "],
+        &["chec"],
         &[""],
     ];
     for words in all {

@@ -20,6 +20,27 @@ family /event event_page
 ---
 ";
 
+/// A site of two kinds, whose page of an event lists its results by their places.
+pub(crate) const RESULTS: &[u8] = b"kind event title
+kind result event who place
+template line of result
+= <li>
+field place
+= :
+field who
+= </li>
+end
+template event_page of event
+= <h1>
+field title
+= </h1>
+each result by event order place
+embed line
+end
+end
+family /event event_page
+";
+
 fn words_of(alloc: Global, texts: &[&str]) -> Result<Vec<String>, AllocError> {
     let mut words = Vec::new(alloc);
     for text in texts {
@@ -65,6 +86,22 @@ pub(crate) fn in_pieces(piece: usize) -> Setting<'static> {
     }
 }
 
+/// The word `check`, pieces of this size, and no failure.
+pub(crate) fn checking(piece: usize) -> Setting<'static> {
+    Setting {
+        words: &["check"],
+        ..in_pieces(piece)
+    }
+}
+
+/// The word `render`, pieces of this size, and no failure.
+pub(crate) fn rendering(piece: usize) -> Setting<'static> {
+    Setting {
+        words: &["render"],
+        ..in_pieces(piece)
+    }
+}
+
 /// The status of a call, and what it wrote.
 pub(crate) fn run(
     rt: &(impl Abort + Alloc<A = Global> + Threads + Sync),
@@ -93,6 +130,19 @@ pub(crate) fn ends(
     let (got, written) = run(rt, setting, input)?;
     assert_eq!(rt; written.as_slice(), output);
     assert_eq!(rt; got, status);
+    Ok(())
+}
+
+/// A call over each of these site texts ends with 5, and has written the line on the cause beside it.
+pub(crate) fn each_has_cause(
+    rt: &(impl Abort + Alloc<A = Global> + Threads + Sync),
+    setting: Setting<'_>,
+    rows: &[(&[u8], &str)],
+) -> Result<(), Fail> {
+    for (site, cause) in rows {
+        let line = format!(in rt.alloc(); "bad site: {cause}\n")?;
+        ends(rt, setting, site, 5, line.as_bytes())?;
+    }
     Ok(())
 }
 

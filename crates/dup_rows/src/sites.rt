@@ -1,5 +1,5 @@
 // Site texts that can be played today, and others.
-use crate::plays::{ends, in_pieces, joined, repeated};
+use crate::plays::{each_has_cause, ends, in_pieces, joined, repeated};
 use std::alloc::Global;
 use std::marker::Sync;
 use std::process::Abort;
@@ -57,34 +57,77 @@ fn a_good_site_of_another_form_is_not_built(rt: HostRuntime) -> Result<(), Fail>
 }
 
 #[test]
-fn a_text_that_is_no_good_site_is_not_built(rt: HostRuntime) -> Result<(), Fail> {
-    each_ends(
+fn a_text_that_is_no_good_site_has_its_cause(rt: HostRuntime) -> Result<(), Fail> {
+    each_has_cause(
         &rt,
+        in_pieces(64),
         &[
-            b"kind a\ntemplate t of a\nend\nfamily /p t\n--\n",
-            b"kind a\ntemplate t of a\nend\nfamily /p t\n ---\nsettle\n",
-            b"kind a\ntemplate t of a\nfamily /p t\n---\n",
-            b"kind a f\ntemplate t of a\nfeeld f\nend\nfamily /p t\n---\n",
-            b"kind a f\ntemplate t of a\nfield g\nend\nfamily /p t\n---\n",
-            b"kind a\ntemplate t of b\nend\nfamily /p t\n---\n",
-            b"kind a\ntemplate t of a\nend\nfamily /p u\n---\n",
-            b"kind a\ntemplate t of a\nend\npage /p t\n---\n",
-            b"kind a\ntemplate t of a\nend\nfamily / t\n---\n",
-            b"kind a f f\ntemplate t of a\nend\nfamily /p t\n---\n",
-            b"template t of a\nend\nkind a\nfamily /p t\n---\n",
-            b"kind a\ntemplate t of a\n= \nend\nfamily /p t\n---\n",
-            b"#\xff\nkind a\ntemplate t of a\nend\nfamily /p t\n---\n",
+            (b"kind a\ntemplate t of a\nend\nfamily /p t\n--\n", "line 5"),
+            (
+                b"kind a\ntemplate t of a\nend\nfamily /p t\n ---\nsettle\n",
+                "line 5",
+            ),
+            (b"kind a\ntemplate t of a\nfamily /p t\n---\n", "line 3"),
+            (
+                b"kind a f\ntemplate t of a\nfeeld f\nend\nfamily /p t\n---\n",
+                "line 3",
+            ),
+            (
+                b"kind a f\ntemplate t of a\nfield g\nend\nfamily /p t\n---\n",
+                "unknown g",
+            ),
+            (
+                b"kind a\ntemplate t of b\nend\nfamily /p t\n---\n",
+                "unknown b",
+            ),
+            (
+                b"kind a\ntemplate t of a\nend\nfamily /p u\n---\n",
+                "unknown u",
+            ),
+            (
+                b"kind a\ntemplate t of a\nend\npage /p t\n---\n",
+                "wrong kind t",
+            ),
+            (b"kind a\ntemplate t of a\nend\nfamily / t\n---\n", "line 4"),
+            (
+                b"kind a f f\ntemplate t of a\nend\nfamily /p t\n---\n",
+                "twice f",
+            ),
+            (
+                b"template t of a\nend\nkind a\nfamily /p t\n---\n",
+                "line 3",
+            ),
+            (
+                b"kind a\ntemplate t of a\n= \nend\nfamily /p t\n---\n",
+                "line 3",
+            ),
+            (
+                b"#\xff\nkind a\ntemplate t of a\nend\nfamily /p t\n---\n",
+                "line 1",
+            ),
+            (
+                b"template t\nend\ntemplate t\nend\npage / t\n---\nsettle\n",
+                "twice t",
+            ),
+            (b"template t\nembed t\nend\n---\n", "later t"),
+            (b"template t\nlink t\nend\nend\n---\n", "no page t"),
+            (
+                b"template t\nend\ntemplate u\nend\npage / t\npage / u\n---\n",
+                "path clash /",
+            ),
         ],
-        5,
-        b"bad site: not built\n",
     )
 }
 
 #[test]
 fn names_and_prefixes_have_bounds(rt: HostRuntime) -> Result<(), Fail> {
     let alloc = rt.alloc();
-    let sites = [(31, 119, 0), (32, 119, 5), (31, 120, 5)];
-    for (name, prefix, status) in sites {
+    let rows: [(usize, usize, u8, &[u8]); 3] = [
+        (31, 119, 0, b"site ok\n"),
+        (32, 119, 5, b"bad site: line 1\n"),
+        (31, 120, 5, b"bad site: line 4\n"),
+    ];
+    for (name, prefix, status, output) in rows {
         let name = repeated(alloc, b'k', name)?;
         let prefix = repeated(alloc, b'p', prefix)?;
         let site = joined(
@@ -99,11 +142,6 @@ fn names_and_prefixes_have_bounds(rt: HostRuntime) -> Result<(), Fail> {
                 b" t\n---\n",
             ],
         )?;
-        let output: &[u8] = if status == 0 {
-            b"site ok\n"
-        } else {
-            b"bad site: not built\n"
-        };
         ends(&rt, in_pieces(64), &site, status, output)?;
     }
     Ok(())

@@ -10,5 +10,5 @@ use Rattle.dup_main.proofs.publish.publish_row.Goals as goal
 pub returns-clause-published : goal.returns-clause-published
 returns-clause-published c =
     subst (λ (at : Path × Look). OnOk c.publish.result ((p : Published) → KeepsPages p c.args.edition.now → KeepsPages (with_page c.args.version p at) c.publish.new.self))
-    (page_is c.args.site.now c.args.content.now c.args.key.now c.row_path.result c.in_ok-render.field-0.items c.row_object.result c.row_path.ensures c.row_object.ensures c.in_ok-render.ensures)
+    (page_is c.args.site.now c.args.content.now c.args.key.now c.row_path.result c.in_ok-show_plain.field-0.items c.row_object-obj.result c.row_path.ensures c.row_object-obj.ensures c.in_ok-show_plain.ensures)
     c.publish.ensures.published

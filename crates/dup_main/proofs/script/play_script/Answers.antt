@@ -1,8 +1,12 @@
 use Rattle.std.proofs.Common.{refl, ap, ◌∙◌, Err, subst, arith, rules}
 use Rattle.dup_io.specs.declared.lines.LineFault.{LineFault}
 use Rattle.dup_template.specs.declared.site.Parts.{Parts}
-use Rattle.dup_main.proofs.ScriptSoFar.{begun, more, ended, stops_in_script, stops_on_write, Acts}
+use Rattle.dup_main.proofs.CutScripts.{stops_in_script, stops_on_write}
+use Rattle.dup_main.proofs.ScriptSoFar.{begun, more, ended, reaches, Acts}
 use Rattle.dup_main.proofs.SiteSoFar.{due_of}
+use Rattle.dup_io.specs.Lines.{number_of}
+use Rattle.dup_model.specs.Script.{first_session}
+use Rattle.dup_main.specs.Transcript.{Writes}
 use Rattle.dup_main.proofs.script.play_script.Goals as goal
 
 pub lines-init : goal.lines-init
@@ -20,7 +24,7 @@ lines-init g c = record {
 
 pub returns-in_err-line-clause-stopped : goal.returns-in_err-line-clause-stopped
 returns-in_err-line-clause-stopped g c =
-    stops_in_script _ c.in_err-line.field-0.0 _ _ _ _ _ _ _ _ c.lines.invariant.played
+    stops_in_script _ c.in_err-line.field-0.0 _ _ _ _ _ (reaches _ _ _ _ _ _ _ _ c.lines.invariant.played)
     (due_of _ _ (λ n e. (c.in_err-line.ensures.line_too_long c.lines.invariant.no_fault n e).1)
     (λ e. c.next.ensures.input_too_long c.lines.invariant.no_fault (c.in_err-line.was ∙ ap (λ (f : LineFault). Err f) e)))
     c.from_residual-in_err-line.ensures.1
@@ -45,4 +49,4 @@ lines-preserved g c = record {
 }
 
 pub returns-in_err-put_all-clause-stopped : goal.returns-in_err-put_all-clause-stopped
-returns-in_err-put_all-clause-stopped g c = stops_on_write _ _ _ _ _ _ c.from_residual-in_err-put_all.ensures.1
+returns-in_err-put_all-clause-stopped g c = stops_on_write _ (Writes c.args.site first_session (number_of c.args.lines.now)) _ (g.K.Sink.written c.args.out.now) _ c.from_residual-in_err-put_all.ensures.1

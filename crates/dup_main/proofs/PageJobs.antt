@@ -1,0 +1,59 @@
+-- The pages of a content, written one after another: each shows an object that can be expanded.
+use Rattle.std.proofs.Common.{◌≡◌, ℕ, zero, suc, ◌<◌, true, List, [], ◌∷◌, ◌++◌, length, get_or, refl, sym, arith, ◌∙◌, ap, subst, drop, add-one, append_assoc, ◌+◌}
+use Rattle.std.proofs.Math.Seq.{drop-cons}
+use Rattle.std.specs.Prelude.{Option, Some, None, Result, Ok, Err}
+use Rattle.std.specs.Io.KnownBytes.{Appends}
+use Rattle.std.proofs.KnownBytes.{Appends-trans}
+use Rattle.std.specs.List.{AllByRecursion, flat_map}
+use Rattle.dup_names.specs.Words.{Word, Path}
+use Rattle.dup_names.specs.declared.object.Obj.{Obj}
+use Rattle.dup_template.specs.Good.{IsGood, site_fault}
+use Rattle.dup_template.specs.declared.refusal.SiteRefusal.{SiteRefusal}
+use Rattle.dup_template.specs.declared.site.Parts.{Parts}
+use Rattle.dup_site.specs.Spelling.{text_says}
+use Rattle.dup_model.specs.Content.{Content, start}
+use Rattle.dup_model.specs.Jobs.{IsJob, JobsFit}
+use Rattle.dup_model.specs.Pages.{pages}
+use Rattle.dup_main.specs.BadSites.{checked_site, if_said, or_cause, unless_broken}
+use Rattle.dup_main.specs.RenderedPages.{page_text}
+use Rattle.dup_model.proofs.GoodSites.{good_jobs_fit}
+use Rattle.dup_model.proofs.Jobs.{pages_are_jobs}
+
+module _ (c : Content) where
+  one_of : (ps : List (Path × Obj)) (i : ℕ) (page : Path × Obj) → AllByRecursion (λ (p : Path × Obj). IsJob c.frame p.1) ps → i < length ps → page ≡ get_or ps i page → IsJob c.frame page.1
+  one_of [] i page all below is = absurd (omega (arith, below))
+  one_of (p ∷ ps) zero page all below is = rw is all.0
+  one_of (p ∷ ps) (suc i) page all below is = one_of ps i page all.1 (omega (arith, below)) is
+
+pub page_is_job : (c : Content) (ps : List (Path × Obj)) (i : ℕ) (page : Path × Obj) → JobsFit c → ps ≡ pages c → i < length ps → page ≡ get_or ps i page → IsJob c.frame page.1
+page_is_job c ps i page fit are below is = one_of c ps i page (rw are (pages_are_jobs c fit)) below is
+
+-- the first content of a good site
+pub first_fits : (text : Word) (site : Parts) (c : Content) → checked_site text ≡ Ok site → c ≡ start site → JobsFit c
+first_fits text site c good is = good_jobs_fit site c (said (text_says text) good) (rw is (record { frame = refl; bodies = refl }))
+  where
+    unbroken : (made : Parts) (o : Option SiteRefusal) → site_fault made ≡ o → or_cause (unless_broken made o) ≡ Ok site → IsGood site
+    unbroken made None none is = let e : made ≡ site = cc in subst IsGood e none
+    unbroken made (Some why) none is = absurd (cc)
+
+    said : (r : Result Parts ℕ) → or_cause (if_said r) ≡ Ok site → IsGood site
+    said (Ok made) is = unbroken made (site_fault made) refl is
+    said (Err n) is = absurd (cc)
+
+-- the first pages were written
+abbrev pub Written : Content → List (Path × Obj) → ℕ → Option Word → Option Word → Type 0
+Written c ps i old new = (done : Word) × Appends old new done × (done ++ flat_map (page_text c) (drop i ps) ≡ flat_map (page_text c) ps)
+
+one_more : (c : Content) (ps : List (Path × Obj)) (i : ℕ) (page : Path × Obj) (done all : Word) → i < length ps → page ≡ get_or ps i page
+    → done ++ flat_map (page_text c) (drop i ps) ≡ all → (done ++ page_text c page) ++ flat_map (page_text c) (drop (i + 1) ps) ≡ all
+one_more c ps i page done all below is same =
+    let cut : drop i ps ≡ page ∷ drop (i + 1) ps = rw (drop-cons ps i page, add-one) (ap (λ (d : Path × Obj). d ∷ drop (suc i) ps) (sym is)) in
+    append_assoc done (page_text c page) (flat_map (page_text c) (drop (i + 1) ps)) ∙ sym (ap (λ (l : List (Path × Obj)). done ++ flat_map (page_text c) l) cut) ∙ same
+
+pub more_written : (c : Content) (ps : List (Path × Obj)) (i : ℕ) (page : Path × Obj) (old mid new : Option Word) (sent text : Word) → Written c ps i old mid
+    → i < length ps → page ≡ get_or ps i page → Appends mid new sent → sent ≡ text → text ≡ page_text c page → Written c ps (i + 1) old new
+more_written c ps i page old mid new sent text w below is put same shows = (
+  w.0 ++ page_text c page,
+  Appends-trans old mid new _ _ w.1 (subst (Appends mid new) (same ∙ shows) put),
+  one_more c ps i page w.0 (flat_map (page_text c) ps) below is w.2,
+)

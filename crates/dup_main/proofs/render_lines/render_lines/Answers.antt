@@ -1,0 +1,47 @@
+use Rattle.std.proofs.Common.{refl, ap, ◌∙◌, Err, rules}
+use Rattle.dup_io.specs.Lines.{number_of}
+use Rattle.dup_io.specs.declared.lines.LineFault.{LineFault}
+use Rattle.dup_model.proofs.GoodSites.{good_jobs_fit}
+use Rattle.dup_main.specs.Transcript.{RendersLines}
+use Rattle.dup_main.proofs.CutScripts.{stops_in_script, stops_on_write}
+use Rattle.dup_main.proofs.RenderSoFar.{begun, more, ended_by, reaches}
+use Rattle.dup_main.proofs.SiteSoFar.{due_of}
+use Rattle.dup_main.proofs.render_lines.render_lines.Goals as goal
+
+pub lines-init : goal.lines-init
+lines-init g c = record {
+  same_reference = refl;
+  no_fault = c.requires.no_fault;
+  read_faults = refl;
+  write_faults = refl;
+  of_site = search rules;
+  answered = begun _ _ _ _ _ c.in_ok-content.ensures;
+}
+
+pub returns-in_err-line-clause-stopped : goal.returns-in_err-line-clause-stopped
+returns-in_err-line-clause-stopped g c =
+    stops_in_script _ c.in_err-line.field-0.0 _ _ _ _ _ (reaches _ _ _ _ _ _ _ _ c.lines.invariant.answered)
+    (due_of _ _ (λ n e. (c.in_err-line.ensures.line_too_long c.lines.invariant.no_fault n e).1)
+    (λ e. c.next.ensures.input_too_long c.lines.invariant.no_fault (c.in_err-line.was ∙ ap (λ (f : LineFault). Err f) e)))
+    c.from_residual-in_err-line.ensures.1
+
+pub put_pages-requires : goal.put_pages-requires
+put_pages-requires g c = good_jobs_fit c.args.site _ c.requires.good c.lines.invariant.of_site
+
+pub returns-in_default-clause-written : goal.returns-in_default-clause-written
+returns-in_default-clause-written g c = ended_by _ _ _ _ _ _ _ _ _ _ c.lines.invariant.answered (search rules) c.put_pages.ensures.written
+
+pub lines-preserved : goal.lines-preserved
+lines-preserved g c = record {
+  same_reference = search rules;
+  no_fault = search rules;
+  read_faults = search rules;
+  write_faults = search rules;
+  of_site = c.take.ensures.of_site c.args.site c.lines.invariant.of_site;
+  answered = more _ _ _ _ _ _ _ _ _ _ _ _ _ c.in-Some.line.bytes.items c.in_ok-text.text.items c.in_ok-command.command c.lines.invariant.answered
+      (search rules) (search rules) c.in_ok-text.ensures.takes (search rules) (search rules) (search rules);
+}
+
+pub returns-in_err-put_all-clause-stopped : goal.returns-in_err-put_all-clause-stopped
+returns-in_err-put_all-clause-stopped g c =
+    stops_on_write _ (RendersLines c.args.site (number_of c.args.lines.now)) _ (g.K.Sink.written c.args.out.now) _ c.from_residual-in_err-put_all.ensures.1

@@ -1,0 +1,21 @@
+use Rattle.std.proofs.Common.{◌≡◌, ◌-◌}
+use Rattle.std.specs.Prelude.{None}
+use Rattle.dup_io.specs.Reading.{max_input}
+use Rattle.dup_io.specs.Lines.{to_read, reference_of, source_of, number_of, fault_of}
+use Rattle.dup_model.specs.Content.{IsOf}
+use Rattle.dup_main.proofs.RenderSoFar.{SoFar}
+use Rattle.dup_main.proofs.render_lines.render_lines.Given as goal
+
+abbrev pub invariant-lines : goal.invariant-lines
+invariant-lines g l = record {
+  same_reference : reference_of l.lines ≡ reference_of l.fn.lines;
+  no_fault : fault_of l.lines ≡ None;
+  read_faults : g.S.Source.faults (source_of l.lines) ≡ g.S.Source.faults (source_of l.fn.lines);
+  write_faults : g.K.Sink.faults l.out ≡ g.K.Sink.faults l.fn.out;
+  of_site : IsOf l.fn.site l.content;
+  answered : SoFar l.fn.site (to_read g.S.Source.left l.fn.lines) (to_read g.S.Source.left l.lines) (g.K.Sink.written l.fn.out) (g.K.Sink.written l.out)
+      (number_of l.fn.lines) (number_of l.lines) l.content;
+}
+
+abbrev pub decreases-lines : goal.decreases-lines
+decreases-lines g l = max_input - (number_of l.lines)

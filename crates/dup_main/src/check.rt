@@ -1,0 +1,33 @@
+ghost use Rattle.std.specs.Prelude.{◌≡◌, ◌≢◌, OnOk, IfErr, IsErrOf, Err};
+ghost use Rattle.dup_io.specs.Causes.{Rose};
+ghost use Rattle.dup_main.specs.declared.task.Task.TheVariants.{Check};
+ghost use Rattle.dup_main.specs.Stops.{StopsAt};
+ghost use Rattle.dup_main.specs.Transcript.{WritesTranscript};
+
+use crate::form::good_site;
+use crate::site_part::read_site_text;
+use crate::stop::Stop;
+use dup_io::{Lines, Sink, Source, put_all};
+use dup_site::site_text;
+use std::alloc::Global;
+
+/// Reads a site text, and writes the canonical text of its site.
+pub(crate) fn check_site<S: Source, K: Sink>(
+    alloc: Global,
+    input: &mut S,
+    out: &mut K,
+) -> Result<(), Stop>
+    ensures written { OnOk result (WritesTranscript Check (S.left input.old) (K.written out.old) (K.written out.new) 0) }
+    ensures stopped { IfErr result (λ stop. StopsAt Check stop (S.left input.old) (K.written out.old) (K.written out.new)) }
+    ensures read_fault { IsErrOf result Stop.ReadFault → Rose (S.faults input.old) (S.faults input.new) }
+    ensures no_read_fault { result ≢ Err Stop.ReadFault → S.faults input.new ≡ S.faults input.old }
+    ensures write_fault { IsErrOf result Stop.WriteFault → Rose (K.faults out.old) (K.faults out.new) }
+    ensures no_write_fault { result ≢ Err Stop.WriteFault → K.faults out.new ≡ K.faults out.old }
+{
+    let mut lines = Lines::new(input);
+    let read = read_site_text(alloc, &mut lines)?;
+    let site = good_site(alloc, &read.text)?;
+    let text = site_text(alloc, &site)?;
+    put_all(out, &text)?;
+    Ok(())
+}

@@ -1,0 +1,94 @@
+// The lines behind a site text, as a render takes them.
+ghost use Rattle.std.specs.Prelude.{◌≡◌, ◌≢◌, OnOk, IfOk, IfErr, IsErrOf, Err, None};
+ghost use Rattle.std.specs.Io.KnownBytes.{IsAtEnd};
+ghost use Rattle.dup_io.specs.Causes.{Rose};
+ghost use Rattle.dup_io.specs.Lines.{to_read, source_of, reference_of, number_of, fault_of};
+ghost use Rattle.dup_template.specs.Good.{IsGood};
+ghost use Rattle.dup_template.specs.declared.site.Parts.{Parts as Sites};
+ghost use Rattle.dup_model.specs.Content.{IsOf, start};
+ghost use Rattle.dup_model.specs.declared.command.Command.TheVariants as command;
+ghost use Rattle.dup_main.specs.RenderedPages.{Takes};
+ghost use Rattle.dup_main.specs.Stops.{StopsInScript, WritesScript};
+ghost use Rattle.dup_main.specs.Transcript.{RendersLines};
+
+use crate::all_pages::put_pages;
+use crate::command::read_command;
+use crate::session::ROWS;
+use crate::stop::Stop;
+use crate::texts::{not_built, refusal_text};
+use dup_io::{Lines, Sink, Source, put_all};
+use dup_model::Command;
+use dup_names::NoMemory;
+use dup_records::{Commit, CommitRefusal, Content, apply};
+use dup_template::Site;
+use std::alloc::Global;
+use std::sync::Arc;
+
+/// The content of a site before any commit.
+pub(crate) fn first_content(alloc: Global, site: Site) -> Result<Content, NoMemory>
+    ensures { IfOk result (λ made. made ≡ start site) }
+{
+    let site = Arc::new(alloc, site)?;
+    Content::start(alloc, site)
+}
+
+/// Applies a commit where it is accepted. Gives the line of its refusal, or nothing.
+fn take_commit(alloc: Global, content: &mut Content, commit: &Commit) -> Result<Vec<u8>, NoMemory>
+    ensures of_site { (site : Sites) → IsOf site content.old → IsOf site content.new }
+    ensures takes { IfOk result (λ text. Takes content.old content.new 0 (command.Commit commit.now) text.items) }
+{
+    match apply(alloc, content, commit, ROWS) {
+        Ok(made) => {
+            *content = made;
+            Ok(Vec::new(alloc))
+        }
+        Err(CommitRefusal::NoMemory) => Err(NoMemory),
+        Err(why) => Ok(refusal_text(alloc, why)?.into_bytes()),
+    }
+}
+
+/// Does a command and gives its answer. What is no commit changes nothing.
+fn take(
+    alloc: Global,
+    content: &mut Content,
+    number: u64,
+    command: Command<Commit>,
+) -> Result<Vec<u8>, NoMemory>
+    ensures of_site { (site : Sites) → IsOf site content.old → IsOf site content.new }
+    ensures takes { IfOk result (λ text. Takes content.old content.new number command text.items) }
+{
+    match command {
+        Command::Blank => Ok(Vec::new(alloc)),
+        Command::Commit(commit) => take_commit(alloc, content, &commit),
+        _ => Ok(not_built(alloc, number)?.into_bytes()),
+    }
+}
+
+/// Does each line and writes its answer before it reads the next; at the end of input, it writes each page.
+pub(crate) fn render_lines<'s, S: Source, K: Sink>(
+    alloc: Global,
+    site: Site,
+    lines: &mut Lines<'s, S>,
+    out: &mut K,
+) -> Result<(), Stop>
+    requires no_fault { fault_of lines.old ≡ None }
+    requires good { IsGood site }
+    ensures same_reference { reference_of lines.new ≡ reference_of lines.old }
+    ensures written { OnOk result (WritesScript (RendersLines site (number_of lines.old)) (to_read S.left lines.old) (K.written out.old) (K.written out.new)) }
+    ensures at_end { OnOk result (IsAtEnd (S.left (source_of lines.new))) }
+    ensures stopped { IfErr result (λ stop. StopsInScript stop (RendersLines site (number_of lines.old)) (to_read S.left lines.old) (K.written out.old) (K.written out.new)) }
+    ensures read_fault { IsErrOf result Stop.ReadFault → Rose (S.faults (source_of lines.old)) (S.faults (source_of lines.new)) }
+    ensures no_read_fault { result ≢ Err Stop.ReadFault → S.faults (source_of lines.new) ≡ S.faults (source_of lines.old) }
+    ensures write_fault { IsErrOf result Stop.WriteFault → Rose (K.faults out.old) (K.faults out.new) }
+    ensures no_write_fault { result ≢ Err Stop.WriteFault → K.faults out.new ≡ K.faults out.old }
+{
+    let mut content = first_content(alloc, site)?;
+    'lines: loop {
+        let Some(line) = lines.next(alloc)? else {
+            return put_pages(alloc, &content, out);
+        };
+        let command = read_command(alloc, &line.bytes)?;
+        let text = take(alloc, &mut content, line.number, command)?;
+        put_all(out, &text)?;
+    }
+}

@@ -1,0 +1,38 @@
+ghost use Rattle.std.specs.Prelude.{◌≡◌, ◌≢◌, OnOk, IfErr, IsErrOf, Err};
+ghost use Rattle.std.specs.Io.KnownBytes.{IsAtEnd};
+ghost use Rattle.dup_io.specs.Causes.{Rose};
+ghost use Rattle.dup_main.specs.declared.task.Task.TheVariants.{Render};
+ghost use Rattle.dup_main.specs.Stops.{StopsAt};
+ghost use Rattle.dup_main.specs.Transcript.{WritesTranscript};
+
+use crate::all_pages::put_pages;
+use crate::form::good_site;
+use crate::render_lines::{first_content, render_lines};
+use crate::site_part::read_site_text;
+use crate::stop::Stop;
+use dup_io::{Lines, Sink, Source};
+use std::alloc::Global;
+
+/// Reads a site and the commits behind it, and writes each page of the last content.
+pub(crate) fn render_site<S: Source, K: Sink>(
+    alloc: Global,
+    input: &mut S,
+    out: &mut K,
+) -> Result<(), Stop>
+    ensures written { OnOk result (WritesTranscript Render (S.left input.old) (K.written out.old) (K.written out.new) 0) }
+    ensures at_end { OnOk result (IsAtEnd (S.left input.new)) }
+    ensures stopped { IfErr result (λ stop. StopsAt Render stop (S.left input.old) (K.written out.old) (K.written out.new)) }
+    ensures read_fault { IsErrOf result Stop.ReadFault → Rose (S.faults input.old) (S.faults input.new) }
+    ensures no_read_fault { result ≢ Err Stop.ReadFault → S.faults input.new ≡ S.faults input.old }
+    ensures write_fault { IsErrOf result Stop.WriteFault → Rose (K.faults out.old) (K.faults out.new) }
+    ensures no_write_fault { result ≢ Err Stop.WriteFault → K.faults out.new ≡ K.faults out.old }
+{
+    let mut lines = Lines::new(input);
+    let read = read_site_text(alloc, &mut lines)?;
+    let site = good_site(alloc, &read.text)?;
+    if read.has_script {
+        return render_lines(alloc, site, &mut lines, out);
+    }
+    let content = first_content(alloc, site)?;
+    put_pages(alloc, &content, out)
+}
