@@ -1,6 +1,6 @@
 pub mod Causes
-pub mod Reading
 pub mod Lines
+pub mod Readings
 pub mod Std
 pub mod Memory
 pub mod MemoryLine

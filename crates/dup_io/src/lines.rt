@@ -2,7 +2,8 @@
 ghost use Rattle.std.specs.Prelude.{◌≡◌, ◌≢◌, ◌≤◌, ◌∷◌, [], ℕ, ◌+◌, length, OnOk, OnErr, IfOk, IfErr, IfSome, IsErrOf, IsNone, Err};
 ghost use Rattle.std.specs.Io.KnownBytes.{Consumes, IsAtEnd, Keeps};
 ghost use Rattle.dup_io.specs.Causes.{HasCause, Rose};
-ghost use Rattle.dup_io.specs.Reading.{GivesLine, IsReading, LongInput, LongLine, Whole, max_input};
+ghost use Rattle.dup_io.specs.Readings.{GivesLine, IsReading};
+ghost use Rattle.dup_names.specs.Lines.{LongInput, LongLine, Whole, max_input};
 ghost use Rattle.std.specs.Str.Lines.{strip_carriage_return};
 ghost use Rattle.dup_io.specs.declared.lines.LineFault.TheVariants.{NoMemory, ReadFault};
 

@@ -20,11 +20,13 @@ use Rattle.std.proofs.lemmas.List.{take-append-le}
 use Rattle.std.proofs.lemmas.Grind.{fold-append}
 use Rattle.dup_model.specs.Content.{start}
 use Rattle.dup_model.specs.Commits.{Commit, Refusal, edited, after, refusal, put_row, put_row_at}
+use Rattle.dup_model.specs.Journal.{unless_refused}
 use Rattle.dup_model.specs.Versions.{content, version}
 use Rattle.dup_model.specs.declared.command.Command.TheVariants as command
 use Rattle.dup_main.specs.declared.session.Session.{Session as Kept}
 use Rattle.dup_main.specs.Kept.{Acts, IsMade, IsReady, Keeps}
-use Rattle.dup_model.specs.Script.{commit_text, committed, line}
+use Rattle.dup_model.specs.Script.{commit_text}
+use Rattle.dup_names.specs.Lines.{line}
 
 edited_is_of : (site : Parts) (c : Content) (e : Edit) → IsOf site c → IsOf site (edited c e)
 edited_is_of site c (Put name key fields) is = record { frame = is.frame; bodies = is.bodies }
@@ -99,7 +101,7 @@ pub commit_acts : (r : Kept) (new : Content) (commit : Commit) (text : Word) →
 commit_acts r new commit text is fits said = λ s k.
     let e : refusal (content r.site.value s.commits) commit 4096 ≡ None = ap (λ (c : Content). refusal c commit 4096) (sym k.content) ∙ fits in
     let longer : length s.commits + 1 ≡ length (s.commits ++ commit ∷ []) = sym (length-append s.commits (commit ∷ [])) in (
-      subst (λ (o : Option Refusal). Keeps (committed s commit o) (committed_in r new)) (sym e) (record {
+      subst (λ (o : Option Refusal). Keeps (record s { commits = unless_refused s.commits commit o }) (committed_in r new)) (sym e) (record {
         content = is ∙ ap (λ (c : Content). after c commit) k.content ∙ sym (fold-append after (start r.site.value) s.commits (commit ∷ []));
         version = ap (λ (n : ℕ). n + 1) k.version ∙ longer;
         made = still_made s.target (length s.commits) (length (s.commits ++ commit ∷ [])) k.made (omega (arith, longer));

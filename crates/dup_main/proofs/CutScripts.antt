@@ -2,14 +2,14 @@
 use Rattle.std.proofs.Common.{◌≡◌, inl, inr, ℕ, refl, sym, ap, ◌∙◌, subst, ◌++◌}
 use Rattle.std.specs.Prelude.{None, Some, Option, Result, Ok, Err, IfErr, IsErrAnd, ◌⊎◌}
 use Rattle.std.specs.Io.KnownBytes.{Appends}
-use Rattle.dup_io.specs.Reading.{Reading, LongLine, LongInput}
+use Rattle.dup_names.specs.Lines.{Reading, LongLine, LongInput}
 use Rattle.dup_io.specs.declared.lines.LineFault.{LineFault}
 use Rattle.dup_names.specs.Words.{Word}
 use Rattle.dup_main.specs.declared.stop.Stop.{Stop}
 use Rattle.dup_main.specs.declared.stop.Stop.TheVariants as stops
 use Rattle.dup_main.specs.LineStops.{stop_of}
 use Rattle.dup_main.specs.Stops.{StopsInScript}
-use Rattle.dup_main.specs.Transcript.{ending, too_long_line, too_long_input}
+use Rattle.dup_model.specs.Transcript.{ending, too_long_line, too_long_input}
 use Rattle.dup_main.proofs.SiteSoFar.{IsDue}
 
 -- of the lines some were answered by done: it is all that may be written before the line on what is too long

@@ -14,8 +14,9 @@ use Rattle.dup_site.specs.Spelling.{text_says}
 use Rattle.dup_model.specs.Content.{Content, start}
 use Rattle.dup_model.specs.Jobs.{IsJob, JobsFit}
 use Rattle.dup_model.specs.Pages.{pages}
-use Rattle.dup_main.specs.BadSites.{checked_site, if_said, or_cause, unless_broken}
-use Rattle.dup_main.specs.RenderedPages.{page_text}
+use Rattle.dup_site.specs.Reads.{if_said, site_says, unless_broken}
+use Rattle.dup_model.specs.BadSites.{or_cause}
+use Rattle.dup_model.specs.RenderedPages.{rendered_page}
 use Rattle.dup_model.proofs.GoodSites.{good_jobs_fit}
 use Rattle.dup_model.proofs.Jobs.{pages_are_jobs}
 
@@ -29,7 +30,7 @@ pub page_is_job : (c : Content) (ps : List (Path × Obj)) (i : ℕ) (page : Path
 page_is_job c ps i page fit are below is = one_of c ps i page (rw are (pages_are_jobs c fit)) below is
 
 -- the first content of a good site
-pub first_fits : (text : Word) (site : Parts) (c : Content) → checked_site text ≡ Ok site → c ≡ start site → JobsFit c
+pub first_fits : (text : Word) (site : Parts) (c : Content) → or_cause (site_says text) ≡ Ok site → c ≡ start site → JobsFit c
 first_fits text site c good is = good_jobs_fit site c (said (text_says text) good) (rw is (record { frame = refl; bodies = refl }))
   where
     unbroken : (made : Parts) (o : Option SiteRefusal) → site_fault made ≡ o → or_cause (unless_broken made o) ≡ Ok site → IsGood site
@@ -42,18 +43,18 @@ first_fits text site c good is = good_jobs_fit site c (said (text_says text) goo
 
 -- the first pages were written
 abbrev pub Written : Content → List (Path × Obj) → ℕ → Option Word → Option Word → Type 0
-Written c ps i old new = (done : Word) × Appends old new done × (done ++ flat_map (page_text c) (drop i ps) ≡ flat_map (page_text c) ps)
+Written c ps i old new = (done : Word) × Appends old new done × (done ++ flat_map (rendered_page c) (drop i ps) ≡ flat_map (rendered_page c) ps)
 
 one_more : (c : Content) (ps : List (Path × Obj)) (i : ℕ) (page : Path × Obj) (done all : Word) → i < length ps → page ≡ get_or ps i page
-    → done ++ flat_map (page_text c) (drop i ps) ≡ all → (done ++ page_text c page) ++ flat_map (page_text c) (drop (i + 1) ps) ≡ all
+    → done ++ flat_map (rendered_page c) (drop i ps) ≡ all → (done ++ rendered_page c page) ++ flat_map (rendered_page c) (drop (i + 1) ps) ≡ all
 one_more c ps i page done all below is same =
     let cut : drop i ps ≡ page ∷ drop (i + 1) ps = rw (drop-cons ps i page, add-one) (ap (λ (d : Path × Obj). d ∷ drop (suc i) ps) (sym is)) in
-    append_assoc done (page_text c page) (flat_map (page_text c) (drop (i + 1) ps)) ∙ sym (ap (λ (l : List (Path × Obj)). done ++ flat_map (page_text c) l) cut) ∙ same
+    append_assoc done (rendered_page c page) (flat_map (rendered_page c) (drop (i + 1) ps)) ∙ sym (ap (λ (l : List (Path × Obj)). done ++ flat_map (rendered_page c) l) cut) ∙ same
 
 pub more_written : (c : Content) (ps : List (Path × Obj)) (i : ℕ) (page : Path × Obj) (old mid new : Option Word) (sent text : Word) → Written c ps i old mid
-    → i < length ps → page ≡ get_or ps i page → Appends mid new sent → sent ≡ text → text ≡ page_text c page → Written c ps (i + 1) old new
+    → i < length ps → page ≡ get_or ps i page → Appends mid new sent → sent ≡ text → text ≡ rendered_page c page → Written c ps (i + 1) old new
 more_written c ps i page old mid new sent text w below is put same shows = (
-  w.0 ++ page_text c page,
+  w.0 ++ rendered_page c page,
   Appends-trans old mid new _ _ w.1 (subst (Appends mid new) (same ∙ shows) put),
-  one_more c ps i page w.0 (flat_map (page_text c) ps) below is w.2,
+  one_more c ps i page w.0 (flat_map (rendered_page c) ps) below is w.2,
 )

@@ -10,7 +10,7 @@ use Rattle.dup_model.specs.Content.{Content, Table, Entry}
 use Rattle.dup_main.specs.Kept.{plain_look}
 use Rattle.dup_model.specs.Show.{show}
 use Rattle.dup_main.specs.RowPages.{row_object, row_page, row_path}
-use Rattle.dup_model.specs.Script.{Published, published, with_page}
+use Rattle.dup_model.specs.Script.{Published, with_pages, with_page}
 
 pub page_is : (site : Parts) (c : Content) (key path bytes : Word) (o : Obj) → path ≡ row_path site key → o ≡ row_object key → bytes ≡ show c o
     → (path, plain_look o bytes) ≡ row_page site c key
@@ -20,12 +20,12 @@ abbrev pub pages_from : Parts → Content → Table → List (Path × Look)
 pages_from site c rows = map (row_page site c) (map (λ e. e.0) rows)
 
 pub one_more : (site : Parts) (c : Content) (v i : ℕ) (rows : Table) (e : Entry) (q all : Published) → i < length rows → e ≡ get_or rows i e
-    → published v (pages_from site c (drop i rows)) q ≡ all → published v (pages_from site c (drop (i + 1) rows)) (with_page v q (row_page site c e.0)) ≡ all
+    → with_pages v (pages_from site c (drop i rows)) q ≡ all → with_pages v (pages_from site c (drop (i + 1) rows)) (with_page v q (row_page site c e.0)) ≡ all
 one_more site c v i rows e q all below is same =
     let cut : drop i rows ≡ e ∷ drop (i + 1) rows = rw (drop-cons rows i e, add-one) (ap (λ (d : Entry). d ∷ drop (suc i) rows) (sym is)) in
-    sym (ap (λ (l : Table). published v (pages_from site c l) q) cut) ∙ same
+    sym (ap (λ (l : Table). with_pages v (pages_from site c l) q) cut) ∙ same
 
 pub finished : (site : Parts) (c : Content) (v i : ℕ) (rows rows_of : Table) (q p : Published) → length rows ≤ i → rows ≡ rows_of
-    → published v (pages_from site c (drop i rows)) q ≡ published v (pages_from site c rows) p → q ≡ published v (pages_from site c rows_of) p
+    → with_pages v (pages_from site c (drop i rows)) q ≡ with_pages v (pages_from site c rows) p → q ≡ with_pages v (pages_from site c rows_of) p
 finished site c v i rows rows_of q p past is same =
-    sym (ap (λ (l : Table). published v (pages_from site c l) q) (drop_all i rows past)) ∙ same ∙ ap (λ (l : Table). published v (pages_from site c l) p) is
+    sym (ap (λ (l : Table). with_pages v (pages_from site c l) q) (drop_all i rows past)) ∙ same ∙ ap (λ (l : Table). with_pages v (pages_from site c l) p) is

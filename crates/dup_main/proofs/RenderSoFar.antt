@@ -3,23 +3,25 @@ use Rattle.std.proofs.Common.{◌≡◌, ℕ, ◌+◌, refl, sym, ap, ◌∙◌,
 use Rattle.std.specs.Prelude.{None, Some, Option, Result, Ok, Err, OnOk}
 use Rattle.std.specs.Io.KnownBytes.{Appends}
 use Rattle.std.proofs.KnownBytes.{Appends-trans, Appends-nil}
-use Rattle.dup_io.specs.Reading.{Reading, Whole, Next, GivesLine, IsReading}
+use Rattle.dup_names.specs.Lines.{Reading, Whole, Next}
+use Rattle.dup_io.specs.Readings.{GivesLine, IsReading}
 use Rattle.dup_names.specs.Words.{Word}
 use Rattle.dup_template.specs.declared.site.Parts.{Parts}
 use Rattle.dup_model.specs.Commands.{Command}
 use Rattle.dup_model.specs.Commits.{Commit}
 use Rattle.dup_model.specs.Content.{Content, start}
 use Rattle.dup_model.specs.Versions.{content}
-use Rattle.dup_main.specs.Commands.{command_of}
-use Rattle.dup_main.specs.RenderedPages.{Takes, accepted, last_content, pages_text, render_answer, render_answers}
+use Rattle.dup_main.specs.Commands.{command_of, message_command}
+use Rattle.dup_main.specs.Taken.{Takes}
+use Rattle.dup_model.specs.RenderedPages.{accepted, last_content, rendered_pages, render_answer, render_answers}
 use Rattle.dup_main.specs.declared.stop.Stop.{Stop}
 use Rattle.dup_main.specs.Stops.{WritesScript}
-use Rattle.dup_main.specs.Transcript.{RendersLines, closing, commands, ending, rendered}
+use Rattle.dup_model.specs.Transcript.{RendersLines, render_end, commands, ending, rendered}
 use Rattle.dup_main.proofs.CutScripts.{Reaches}
 
 -- of the lines, some were answered by done, and the rest goes on from these commits
 pub record IsRendered (site : Parts) (all rest : Reading) (commits : List Commit) (before now : ℕ) (done : Word) : Type 0 where
-  pub goes : rendered site [] before all ≡ done ++ rendered site commits now rest
+  pub goes : rendered message_command site [] before all ≡ done ++ rendered message_command site commits now rest
   pub ends : ending all ≡ ending rest
 
 abbrev pub SoFar : Parts → Option Reading → Option Reading → Option Word → Option Word → ℕ → ℕ → Content → Type 0
@@ -39,8 +41,8 @@ one_more site all rest commits before now done text p =
     let next = accepted site commits (command_of text) in
     record {
       goes = p.goes
-          ∙ ap (λ (w : Word). done ++ w) (append_assoc said (render_answers site next (now + 1) (commands rest)) (closing (last_content site next (commands rest)) rest))
-          ∙ sym (append_assoc done said (rendered site next (now + 1) rest));
+          ∙ ap (λ (w : Word). done ++ w) (append_assoc said (render_answers site next (now + 1) (commands message_command rest)) (render_end (last_content site next (commands message_command rest)) rest))
+          ∙ sym (append_assoc done said (rendered message_command site next (now + 1) rest));
       ends = p.ends;
     }
 
@@ -67,21 +69,21 @@ more site (Some all) (Some r) (Some rest) old mid new before now then_ number c 
 
 -- the pages behind the last answer
 ended : (site : Parts) (a r : Option Reading) (old mid new : Option Word) (before now : ℕ) (c : Content) → SoFar site a r old mid before now c → IsReading r Whole
-    → Appends mid new (pages_text c) → WritesScript (RendersLines site before) a old new
+    → Appends mid new (rendered_pages c) → WritesScript (RendersLines message_command site before) a old new
 ended site None r old mid new before now c p is put = tt
 ended site (Some all) None old mid new before now c p is put = absurd p
 ended site (Some all) (Some r) old mid new before now c p is put =
     let q = subst (λ (x : Reading). IsRendered site all x p.0 before now p.2.0) is p.2.2 in
-    (p.2.0 ++ pages_text (content site p.0), q.ends, sym q.goes, Appends-trans old mid new _ _ p.2.1 (subst (λ (x : Content). Appends mid new (pages_text x)) p.1 put))
+    (p.2.0 ++ rendered_pages (content site p.0), q.ends, sym q.goes, Appends-trans old mid new _ _ p.2.1 (subst (λ (x : Content). Appends mid new (rendered_pages x)) p.1 put))
 
 pub ended_by : (result : Result (Unit {0}) Stop) (site : Parts) (a r : Option Reading) (old mid new : Option Word) (before now : ℕ) (c : Content) → SoFar site a r old mid before now c
-    → IsReading r Whole → OnOk result (Appends mid new (pages_text c)) → OnOk result (WritesScript (RendersLines site before) a old new)
+    → IsReading r Whole → OnOk result (Appends mid new (rendered_pages c)) → OnOk result (WritesScript (RendersLines message_command site before) a old new)
 ended_by (Ok x) site a r old mid new before now c p is put = ended site a r old mid new before now c p is put
 ended_by (Err e) site a r old mid new before now c p is put = tt
 
 -- what was answered so far, where the rest is too long
 pub reaches : (site : Parts) (a r : Option Reading) (old new : Option Word) (before now : ℕ) (c : Content) → SoFar site a r old new before now c
-    → Reaches (RendersLines site before) a r old new
+    → Reaches (RendersLines message_command site before) a r old new
 reaches site None r old new before now c p = tt
 reaches site (Some all) None old new before now c p = absurd p
 reaches site (Some all) (Some r) old new before now c p = (

@@ -12,15 +12,16 @@ use Rattle.dup_names.specs.Order.{text_cmp}
 use Rattle.dup_names.specs.Words.{Word, Path}
 use Rattle.dup_names.specs.declared.value.Look.{Look}
 use Rattle.dup_template.specs.declared.site.Parts.{Parts}
-use Rattle.dup_model.specs.Commits.{Commit, Refusal, refusal}
+use Rattle.dup_model.specs.Commits.{Commit, Refusal}
 use Rattle.dup_model.specs.Content.{Content}
 use Rattle.dup_model.specs.Editions.{Page}
+use Rattle.dup_model.specs.Journal.{unless_refused}
 use Rattle.dup_model.specs.Versions.{content, version}
 use Rattle.dup_model.specs.Commands.{Command}
 use Rattle.dup_model.specs.declared.command.Command.TheVariants as command
 use Rattle.dup_main.specs.Commands.{command_of}
 use Rattle.dup_main.specs.Headline.{EditionsAreRendered, FoundPagesAreRendered, IsRendered, session_after}
-use Rattle.dup_model.specs.Script.{Session, Published, published, with_page, shows, whole_site, after_command, committed, settled, first_session, has_node}
+use Rattle.dup_model.specs.Script.{Session, Published, with_pages, with_page, shows, whole_site, after_command, refused_behind, settled, first_session, has_node}
 use Rattle.dup_main.proofs.Editions.{same_path}
 
 -- a page that was put from a whole site
@@ -49,7 +50,7 @@ module _ (v : ℕ) (all : List (Path × Look)) where
       by_test true is = inl is
       by_test false is = by_tie (eq_by_cmp text_cmp q at.0) refl (sym (fin.get-insert nat_list_cmp_total p.edition at.0 new q) ∙ is)
 
-  pub put_pages : (l : List (Path × Look)) → AllByRecursion (Contains all) l → (p : Published) (q : Path) (page : Page) → fin.get (published v l p).edition q ≡ Some page
+  pub put_pages : (l : List (Path × Look)) → AllByRecursion (Contains all) l → (p : Published) (q : Path) (page : Page) → fin.get (with_pages v l p).edition q ≡ Some page
       → (fin.get p.edition q ≡ Some page) ⊎ IsPut v all q page
   put_pages [] h p q page is = inl is
   put_pages (at ∷ l) h p q page is = either (put_pages l h.1 (with_page v p at) q page is)
@@ -66,7 +67,7 @@ take_whole : (l : List Commit) → take (length l) l ≡ l
 take_whole [] = refl
 take_whole (d ∷ ds) = ap (λ l. d ∷ l) (take_whole ds)
 
-after_commit : (site : Parts) (s : Session) (commit : Commit) (why : Option Refusal) → AllRendered site s → AllRendered site (committed s commit why)
+after_commit : (site : Parts) (s : Session) (commit : Commit) (why : Option Refusal) → AllRendered site s → AllRendered site (record s { commits = unless_refused s.commits commit why })
 after_commit site s commit (Some why) h = h
 after_commit site s commit None h = λ path page is.
     let r = h path page is in
@@ -80,7 +81,7 @@ after_commit site s commit None h = λ path page is.
 
 -- pages of the last version that are published keep it so
 once_put : (site : Parts) (s : Session) → AllRendered site s → (l : List (Path × Look)) → AllByRecursion (Contains (whole_site (content site s.commits))) l
-    → (path : Path) (page : Page) → fin.get (published (length s.commits) l (record { number = s.number; edition = s.edition })).edition path ≡ Some page → IsRendered site s path page
+    → (path : Path) (page : Page) → fin.get (with_pages (length s.commits) l (record { number = s.number; edition = s.edition })).edition path ≡ Some page → IsRendered site s path page
 once_put site s h l from path page is = either (put_pages (length s.commits) all l from (record { number = s.number; edition = s.edition }) path page is)
   where
     all : List (Path × Look)
@@ -108,7 +109,7 @@ after_node site s node true h = h
 after_node site s node false h = λ path page is. let r = h path page is in record { path_is = r.path_is; made = r.made; shown = r.shown }
 
 after_one : (site : Parts) (s : Session) (c : Command) → AllRendered site s → AllRendered site (after_command site s c)
-after_one site s (command.Commit commit) h = after_commit site s commit (refusal (content site s.commits) commit 4096) h
+after_one site s (command.Commit commit) h = after_commit site s commit (refused_behind site s.commits commit) h
 after_one site s command.Settle h = after_settle site s h
 after_one site s (command.Node node) h = after_node site s node (has_node s node) h
 after_one site s (command.Get node pass path) h = h

@@ -30,7 +30,7 @@ use Rattle.dup_model.specs.Skeletons.{goes, goes_by, embeds}
 use Rattle.dup_model.specs.Tables.{IsRising}
 use Rattle.dup_model.proofs.Equations.{marks-Say, marks-Field}
 use Rattle.dup_model.proofs.Induction.{by_forms}
-use Rattle.dup_main.specs.FirstForm.{is_simple, is_kind, is_kind_with, is_first_form}
+use Rattle.dup_model.specs.FirstForm.{is_simple, is_kind, is_kind_with, is_first_form}
 use Rattle.dup_main.specs.Kept.{plain_look}
 use Rattle.dup_main.specs.RowPages.{row_object, row_page, row_path, prefix_in, HasRowPages, RowsHavePages}
 use Rattle.dup_template.specs.Paths.{path_at}

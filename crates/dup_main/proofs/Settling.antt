@@ -1,5 +1,5 @@
 -- What a settle does and is answered, and what a request is answered.
-use Rattle.std.proofs.Common.{◌≡◌, ℕ, suc, ◌+◌, ◌-◌, ◌≤◌, true, refl, sym, ap, ◌∙◌, subst, List, [], ◌∷◌, length, map, take, arith}
+use Rattle.std.proofs.Common.{◌≡◌, ℕ, suc, ◌+◌, ◌-◌, ◌^◌, ◌<◌, ◌≤◌, true, refl, sym, ap, ◌∙◌, subst, List, [], ◌∷◌, length, map, take, arith}
 use Rattle.std.specs.Prelude.{Option, Some, None, nat_eq, nat_le}
 use Rattle.std.specs.List.{list_any}
 use Rattle.std.specs.Option.{option_map}
@@ -15,7 +15,8 @@ use Rattle.dup_model.specs.Content.{Content, keys, table}
 use Rattle.dup_model.specs.Pages.{live}
 use Rattle.dup_model.specs.Tables.{TablesRise}
 use Rattle.dup_model.specs.Touched.{expanded, joined, is_in, without}
-use Rattle.dup_model.specs.Versions.{content, version}
+use Rattle.dup_model.specs.Versions.{content, version, target_content}
+use Rattle.dup_model.specs.Works.{more}
 use Rattle.dup_model.proofs.Histories.{content_of}
 use Rattle.dup_model.proofs.Tables.{versions_rise}
 use Rattle.dup_model.specs.declared.command.Command.TheVariants as command
@@ -25,7 +26,7 @@ use Rattle.dup_main.specs.declared.session.Session.{Session as Kept}
 use Rattle.dup_main.specs.Kept.{Acts, IsReady, KeepsPages, page_of}
 use Rattle.dup_main.specs.RowCounts.{CountsRows, IsSettledOf, renewed_count}
 use Rattle.dup_main.specs.RowPages.{HasRowPages, row_page}
-use Rattle.dup_model.specs.Script.{Published, published, published_by, whole_site, settled_text, target_content, found_text, has_node}
+use Rattle.dup_model.specs.Script.{Published, with_pages, settled_edition, whole_site, settled_text, found_text, has_node}
 use Rattle.dup_main.proofs.RowCountLemmas.{rows_counted}
 use Rattle.dup_main.proofs.RowPageLemmas.{row_pages}
 
@@ -37,6 +38,15 @@ found_acts r node pass path page text there reaches found said = λ s k.
     let b : nat_le pass s.number ≡ true = grind (arith, nat_tests) in
     let d : fin.get s.edition path ≡ Some (page_of path page) = k.edition.pages path ∙ ap (option_map (page_of path)) found in
     (k, said ∙ ap (λ (m : ℕ). found_text m (page_of path page)) n ∙ sym (rw (a, b, d) refl))
+
+-- what a settle of this version is answered, with these counts
+abbrev told : ℕ → ℕ → ℕ → ℕ → ℕ → ℕ → Word
+told version edition bundles expanded joined kept =
+    settled_text edition bundles (record { version = version; expanded = expanded; joined = joined; kept = kept })
+
+-- a count of rows is far from its last value
+fits : (n rows version : ℕ) → n ≤ rows → rows ≤ version → version < 2 ^ 40 → n ≡ more 0 n
+fits n rows version within made below = grind arith
 
 -- what was settled is a version
 settled_of : (site : Parts) (commits : List Commit) (v : Option ℕ) → IsSettledOf site (option_map (version site commits) v)
@@ -57,31 +67,33 @@ keys_length c = go (table c 0)
 abbrev pub settled_in : Kept → Content → KeptEdition → Kept
 settled_in r c e = record r { settled = Some c; edition = e }
 
-pub settle_acts : (r : Kept) (c : Content) (e : KeptEdition) (text : Word) (of : Parts) → IsReady r → of ≡ r.site.value
-    → ((p : Published) → KeepsPages p r.edition → KeepsPages (published r.version (map (row_page of r.content) (keys r.content 0)) p) e)
+pub settle_acts : (r : Kept) (c : Content) (e : KeptEdition) (text : Word) (of : Parts) → IsReady r → r.version < 2 ^ 40 → of ≡ r.site.value
+    → ((p : Published) → KeepsPages p r.edition → KeepsPages (with_pages r.version (map (row_page of r.content) (keys r.content 0)) p) e)
     → c ≡ r.content
-    → text ≡ settled_text r.version e.number (e.number - r.edition.number) (renewed_count r.settled r.content) (renewed_count r.settled r.content) (length (table r.content 0) - renewed_count r.settled r.content)
+    → text ≡ told r.version e.number (e.number - r.edition.number) (renewed_count r.settled r.content) (renewed_count r.settled r.content) (length (table r.content 0) - renewed_count r.settled r.content)
     → Acts r (settled_in r c e) 0 command.Settle text
-settle_acts r c e text of ready is put same said = λ s k.
+settle_acts r c e text of ready below is put same said = λ s k.
     let site = r.site.value in
     let last : Content = content site s.commits in
     let rise : TablesRise r.content = subst TablesRise (sym k.content) (versions_rise site s.commits) in
     let pages : HasRowPages site r.content = row_pages site r.content ready.form ready.of_site rise in
     let start : Published = record { number = s.number; edition = s.edition } in
     let all : map (row_page site r.content) (keys r.content 0) ≡ whole_site last = sym pages.pages ∙ ap whole_site k.content in
-    let kept : KeepsPages (published_by site s) e =
-    subst (λ (l : List (Path × Look)). KeepsPages (published (length s.commits) l start) e) all
-    (subst (λ (v : ℕ). KeepsPages (published v (map (row_page site r.content) (keys r.content 0)) start) e) k.version (subst (λ (p : Parts). KeepsPages (published r.version (map (row_page p r.content) (keys r.content 0)) start) e) is (put start k.edition))) in
+    let kept : KeepsPages (settled_edition site s) e =
+    subst (λ (l : List (Path × Look)). KeepsPages (with_pages (length s.commits) l start) e) all
+    (subst (λ (v : ℕ). KeepsPages (with_pages v (map (row_page site r.content) (keys r.content 0)) start) e) k.version (subst (λ (p : Parts). KeepsPages (with_pages r.version (map (row_page p r.content) (keys r.content 0)) start) e) is (put start k.edition))) in
     let counts : CountsRows r.settled r.content =
     rows_counted site r.settled r.content ready.form (subst (IsSettledOf site) (sym k.target) (settled_of site s.commits s.target)) ready.of_site rise in
-    let a = target_content site s in
+    let a = target_content site s.commits s.target in
     let x : length (expanded a last) ≡ renewed_count r.settled r.content = sym (ap (λ (o : Option Content). length (expanded o r.content)) k.target ∙ ap (λ (b : Content). length (expanded a b)) k.content) ∙ counts.expands in
     let j : length (joined a last) ≡ renewed_count r.settled r.content = sym (ap (λ (o : Option Content). length (joined o r.content)) k.target ∙ ap (λ (b : Content). length (joined a b)) k.content) ∙ counts.joins in
     let w : length (without (is_in (joined a last)) (live last)) ≡ length (without (is_in (joined r.settled r.content)) (live r.content)) =
     sym (ap (λ (o : Option Content). length (without (is_in (joined o r.content)) (live r.content))) k.target ∙ ap (λ (b : Content). length (without (is_in (joined a b)) (live b))) k.content) in
     let rest : length (table r.content 0) - renewed_count r.settled r.content ≡ length (without (is_in (joined a last)) (live last)) =
     rest_of _ _ _ (counts.keeps ∙ sym (keys_length r.content)) ∙ sym w in
-    let n : e.number ≡ (published_by site s).number = kept.number in (
+    let rows : renewed_count r.settled r.content ≤ length (table r.content 0) = omega (arith, counts.keeps, keys_length r.content) in
+    let few : (m : ℕ) → m ≡ renewed_count r.settled r.content → m ≡ more 0 m = λ m is. fits m (length (table r.content 0)) r.version (omega (arith, is, rows)) ready.rows below in
+    let n : e.number ≡ (settled_edition site s).number = kept.number in (
       record {
         content = k.content;
         version = k.version;
@@ -91,19 +103,21 @@ settle_acts r c e text of ready is put same said = λ s k.
         nodes = k.nodes;
       },
       said
-          ∙ ap (λ (v : ℕ). settled_text v e.number (e.number - r.edition.number) (renewed_count r.settled r.content) (renewed_count r.settled r.content) (length (table r.content 0) - renewed_count r.settled r.content)) k.version
-          ∙ ap (λ (m : ℕ). settled_text (length s.commits) m (m - r.edition.number) (renewed_count r.settled r.content) (renewed_count r.settled r.content) (length (table r.content 0) - renewed_count r.settled r.content)) n
-          ∙ ap (λ (m : ℕ). settled_text (length s.commits) (published_by site s).number ((published_by site s).number - m) (renewed_count r.settled r.content) (renewed_count r.settled r.content) (length (table r.content 0) - renewed_count r.settled r.content)) k.edition.number
-          ∙ ap (λ (m : ℕ). settled_text (length s.commits) (published_by site s).number ((published_by site s).number - s.number) m (renewed_count r.settled r.content) (length (table r.content 0) - renewed_count r.settled r.content)) (sym x)
-          ∙ ap (λ (m : ℕ). settled_text (length s.commits) (published_by site s).number ((published_by site s).number - s.number) (length (expanded a last)) m (length (table r.content 0) - renewed_count r.settled r.content)) (sym j)
-          ∙ ap (λ (m : ℕ). settled_text (length s.commits) (published_by site s).number ((published_by site s).number - s.number) (length (expanded a last)) (length (joined a last)) m) rest,
+          ∙ ap (λ (v : ℕ). told v e.number (e.number - r.edition.number) (renewed_count r.settled r.content) (renewed_count r.settled r.content) (length (table r.content 0) - renewed_count r.settled r.content)) k.version
+          ∙ ap (λ (m : ℕ). told (length s.commits) m (m - r.edition.number) (renewed_count r.settled r.content) (renewed_count r.settled r.content) (length (table r.content 0) - renewed_count r.settled r.content)) n
+          ∙ ap (λ (m : ℕ). told (length s.commits) (settled_edition site s).number ((settled_edition site s).number - m) (renewed_count r.settled r.content) (renewed_count r.settled r.content) (length (table r.content 0) - renewed_count r.settled r.content)) k.edition.number
+          ∙ ap (λ (m : ℕ). told (length s.commits) (settled_edition site s).number ((settled_edition site s).number - s.number) m (renewed_count r.settled r.content) (length (table r.content 0) - renewed_count r.settled r.content)) (sym x)
+          ∙ ap (λ (m : ℕ). told (length s.commits) (settled_edition site s).number ((settled_edition site s).number - s.number) (length (expanded a last)) m (length (table r.content 0) - renewed_count r.settled r.content)) (sym j)
+          ∙ ap (λ (m : ℕ). told (length s.commits) (settled_edition site s).number ((settled_edition site s).number - s.number) (length (expanded a last)) (length (joined a last)) m) rest
+          ∙ ap (λ (m : ℕ). told (length s.commits) (settled_edition site s).number ((settled_edition site s).number - s.number) m (length (joined a last)) (length (without (is_in (joined a last)) (live last)))) (few _ x)
+          ∙ ap (λ (m : ℕ). told (length s.commits) (settled_edition site s).number ((settled_edition site s).number - s.number) (more 0 (length (expanded a last))) m (length (without (is_in (joined a last)) (live last)))) (few _ j),
     )
   where
     take_whole : (l : List Commit) → take (length l) l ≡ l
     take_whole [] = refl
     take_whole (d ∷ ds) = ap (λ l. d ∷ l) (take_whole ds)
 
-pub said_settled : (v n b renewed count rows size : ℕ) (text written : Word) → text ≡ written → written ≡ settled_text v n b renewed renewed (rows - renewed) → renewed ≡ count → rows ≡ size
-    → text ≡ settled_text v n b count count (size - count)
+pub said_settled : (v n b renewed count rows size : ℕ) (text written : Word) → text ≡ written → written ≡ told v n b renewed renewed (rows - renewed) → renewed ≡ count → rows ≡ size
+    → text ≡ told v n b count count (size - count)
 said_settled v n b renewed count rows size text written same said e f =
-    same ∙ said ∙ ap (λ (m : ℕ). settled_text v n b m m (rows - m)) e ∙ ap (λ (m : ℕ). settled_text v n b count count (m - count)) f
+    same ∙ said ∙ ap (λ (m : ℕ). told v n b m m (rows - m)) e ∙ ap (λ (m : ℕ). told v n b count count (m - count)) f

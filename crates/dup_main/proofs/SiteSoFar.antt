@@ -4,13 +4,15 @@ use Rattle.std.specs.Prelude.{None, Some, Option, Result, Ok, Err, IfErr, IsErrA
 use Rattle.dup_io.specs.declared.lines.LineFault.{LineFault}
 use Rattle.dup_io.specs.declared.lines.LineFault.TheVariants as fault
 use Rattle.dup_main.specs.LineStops.{stop_of}
-use Rattle.dup_io.specs.Reading.{Reading, Whole, Next, LongLine, LongInput, GivesLine, IsReading}
+use Rattle.dup_names.specs.Lines.{Reading, Whole, Next, LongLine, LongInput}
+use Rattle.dup_io.specs.Readings.{GivesLine, IsReading}
 use Rattle.dup_names.specs.Words.{Word}
 use Rattle.dup_main.specs.declared.stop.Stop.{Stop}
 use Rattle.dup_main.specs.declared.stop.Stop.TheVariants as stops
-use Rattle.dup_model.specs.Script.{line}
+use Rattle.dup_names.specs.Lines.{line}
 use Rattle.dup_main.specs.Stops.{IsSiteText, ReadsSite, CountsSite, StopsInSite}
-use Rattle.dup_main.specs.Transcript.{is_end, site_text, site_lines, script, site_is_read, ending, too_long}
+use Rattle.dup_model.specs.Inputs.{is_end, site_text, site_lines, script, site_is_read}
+use Rattle.dup_model.specs.Transcript.{ending, too_long}
 
 -- of a reading, this text was read, and the rest is left; from a number of lines to a number of lines
 pub record IsSoFar (all rest : Reading) (text : Word) (before now : ℕ) : Type 0 where

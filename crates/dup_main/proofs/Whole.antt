@@ -20,12 +20,13 @@ use Rattle.dup_names.specs.LineWords.{line_words, trimmed}
 use Rattle.dup_template.specs.declared.site.Parts.{Parts}
 use Rattle.dup_model.specs.declared.edit.Edit.{Edit}
 use Rattle.dup_model.specs.declared.edit.Edit.TheVariants.{Put, Remove}
-use Rattle.dup_model.specs.Commits.{Commit, Refusal, after, refusal, put_row, put_row_at}
+use Rattle.dup_model.specs.Commits.{Commit, Refusal, after, put_row, put_row_at}
 use Rattle.dup_model.specs.Content.{Content, Entry, Table, start, table}
 use Rattle.dup_model.specs.Editions.{Page, looks, target_looks}
 use Rattle.dup_model.specs.Names.{kind_at}
 use Rattle.dup_model.specs.Pages.{target}
 use Rattle.dup_model.specs.Tables.{IsBelow, IsRising}
+use Rattle.dup_model.specs.Journal.{unless_refused}
 use Rattle.dup_model.specs.Versions.{content}
 use Rattle.dup_model.proofs.Histories.{content_of}
 use Rattle.dup_model.proofs.Sound.{look_same}
@@ -33,11 +34,11 @@ use Rattle.dup_model.proofs.Tables.{versions_rise}
 use Rattle.dup_model.specs.Commands.{Command, by_message, by_start, by_words, get_command, is_capacity, is_mode, is_node, is_one_put, message_of, node_command}
 use Rattle.dup_model.specs.declared.command.Command.TheVariants as command
 use Rattle.dup_main.specs.Commands.{command_of, commit_command, message_command}
-use Rattle.dup_main.specs.FirstForm.{is_first_form}
+use Rattle.dup_model.specs.FirstForm.{is_first_form}
 use Rattle.dup_main.specs.Headline.{SettledEditionsAreWhole, session_after}
 use Rattle.dup_model.specs.Numbers.{number_of}
 use Rattle.dup_main.specs.RowPages.{prefix_in, row_page, row_path}
-use Rattle.dup_model.specs.Script.{Session, Published, published, with_page, shows, whole_site, after_command, committed, settled, first_session, has_node}
+use Rattle.dup_model.specs.Script.{Session, Published, with_pages, with_page, shows, whole_site, after_command, refused_behind, settled, first_session, has_node}
 use Rattle.dup_main.proofs.Editions.{same_path}
 use Rattle.dup_main.proofs.Published.{pages_from}
 use Rattle.dup_main.proofs.Rising.{text_cmp_front}
@@ -73,7 +74,7 @@ IsDistinct [] = Unit {0}
 IsDistinct (at ∷ l) = (fin.find text_cmp at.0 l ≡ None) × IsDistinct l
 
 published_looks : (v : ℕ) (l : List (Path × Look)) → IsDistinct l → (p : Published) (q : Path)
-    → looks (published v l p).edition q ≡ option_or (fin.find text_cmp q l) (looks p.edition q)
+    → looks (with_pages v l p).edition q ≡ option_or (fin.find text_cmp q l) (looks p.edition q)
 published_looks v [] h p q = refl
 published_looks v (at ∷ l) h p q =
     published_looks v l h.1 (with_page v p at) q ∙ ap (option_or (fin.find text_cmp q l)) (one_look v p at q) ∙ by_tie (eq_by_cmp text_cmp q at.0) refl
@@ -202,10 +203,10 @@ module _ (site : Parts) (form : is_first_form site ≡ true) where
       let c = content site s.commits in
       let rise = versions_rise site s.commits in
       let pages : whole_site c ≡ pages_from site c (table c 0) = (row_pages site c form (content_of site s.commits) rise).pages in
-      ap (λ (l : List (Path × Look)). looks (published (length s.commits) l (record { number = s.number; edition = s.edition })).edition q) pages
+      ap (λ (l : List (Path × Look)). looks (with_pages (length s.commits) l (record { number = s.number; edition = s.edition })).edition q) pages
       ∙ published_looks (length s.commits) (pages_from site c (table c 0)) (distinct_rows site c (table c 0) (rising_table c.tables rise)) (record { number = s.number; edition = s.edition }) q
 
-  covers_commit : (s : Session) (commit : Commit) (why : Option Refusal) → is_one_put commit ≡ true → Covers s → Covers (committed s commit why)
+  covers_commit : (s : Session) (commit : Commit) (why : Option Refusal) → is_one_put commit ≡ true → Covers s → Covers (record s { commits = unless_refused s.commits commit why })
   covers_commit s commit (Some why) is h = h
   covers_commit s commit None is h = λ q there.
       subst (λ (c : Content). has site q (table c 0) ≡ true) (sym (fold-append after (start site) s.commits (commit ∷ []))) (after_put site q (content site s.commits) commit is (h q there))
@@ -224,7 +225,7 @@ module _ (site : Parts) (form : is_first_form site ≡ true) where
   covers_node s node false h = h
 
   covers_one : (s : Session) (c : Command) → IsPutting c → Covers s → Covers (after_command site s c)
-  covers_one s (command.Commit commit) is h = covers_commit s commit (refusal (content site s.commits) commit 4096) is h
+  covers_one s (command.Commit commit) is h = covers_commit s commit (refused_behind site s.commits commit) is h
   covers_one s command.Settle is h = covers_settle s h
   covers_one s (command.Node node) is h = covers_node s node (has_node s node) h
   covers_one s (command.Get node pass path) is h = h

@@ -8,9 +8,9 @@ use Rattle.dup_model.specs.Editions.{Page, looks, target_looks}
 use Rattle.dup_model.specs.Pages.{target}
 use Rattle.dup_model.specs.Versions.{content, version}
 use Rattle.dup_main.specs.Commands.{command_of}
-use Rattle.dup_main.specs.FirstForm.{is_first_form}
+use Rattle.dup_model.specs.FirstForm.{is_first_form}
 use Rattle.dup_model.specs.declared.command.Command.TheVariants.{Settle}
-use Rattle.dup_model.specs.Script.{Session, Published, after_command, published, first_session, found_text, get_text, has_node, whole_site}
+use Rattle.dup_model.specs.Script.{Session, Published, after_command, with_pages, first_session, found_text, get_text, has_node, whole_site}
 
 -- the session after the lines of a script
 abbrev pub session_after : Parts → List Word → Session
@@ -25,7 +25,7 @@ pub record IsRendered (site : Parts) (s : Session) (path : Path) (page : Page) :
 -- the edition once a settle has published so many pages of the last version; with none it is the newest edition
 abbrev pub edition_within : Parts → Session → ℕ → Published
 edition_within site s pages =
-    published (length s.commits) (take pages (whole_site (content site s.commits))) (record { number = s.number; edition = s.edition })
+    with_pages (length s.commits) (take pages (whole_site (content site s.commits))) (record { number = s.number; edition = s.edition })
 
 -- after every script, and within every settle, each page of the edition is its template over one committed version
 abbrev pub EditionsAreRendered : Type 0

@@ -8,12 +8,12 @@ use Rattle.dup_names.specs.Order.{text_cmp}
 use Rattle.dup_names.specs.Words.{Word, Path}
 use Rattle.dup_names.specs.declared.object.Obj.{Obj}
 use Rattle.dup_names.specs.declared.value.Look.{Look}
-use Rattle.dup_model.specs.Versions.{content}
+use Rattle.dup_model.specs.Versions.{content, target_content}
 use Rattle.dup_model.specs.Editions.{Page}
 use Rattle.dup_model.specs.Content.{IsOf, table}
-use Rattle.dup_main.specs.FirstForm.{is_first_form}
+use Rattle.dup_model.specs.FirstForm.{is_first_form}
 use Rattle.dup_main.specs.RowCounts.{IsSimple}
-use Rattle.dup_model.specs.Script.{Session, Published, target_content, after_command, answer}
+use Rattle.dup_model.specs.Script.{Session, Published, after_command, play_answer}
 use Rattle.dup_model.specs.Commands.{Command}
 use Rattle.dup_main.specs.declared.edition.Edition.{Edition as KeptEdition}
 use Rattle.dup_main.specs.declared.edition.Rendered.{Rendered}
@@ -49,14 +49,14 @@ pub record Keeps (s : Session) (r : Kept) : Type 0 where
   pub content : r.content ≡ content r.site.value s.commits
   pub version : r.version ≡ length s.commits
   pub made : IsMade s.target (length s.commits)
-  pub target : r.settled ≡ target_content r.site.value s
+  pub target : r.settled ≡ target_content r.site.value s.commits s.target
   pub edition : KeepsPages (record { number = s.number; edition = s.edition }) r.edition
   pub nodes : r.nodes.items ≡ s.nodes
 
 -- what a command does, and the text that it is answered
 abbrev pub Acts : Kept → Kept → ℕ → Command → Word → Type 0
 Acts old new number command text =
-    (s : Session) → Keeps s old → Keeps (after_command old.site.value s command) new × (text ≡ answer old.site.value s number command)
+    (s : Session) → Keeps s old → Keeps (after_command old.site.value s command) new × (text ≡ play_answer old.site.value s number command)
 
 -- what holds whatever was done: the site is of the first form, the contents are its own, and each commit made one row at most
 pub record IsReady (r : Kept) : Type 0 where

@@ -1,12 +1,10 @@
-pub mod BadSites
 pub mod Commands
-pub mod FirstForm
 pub mod Kept
 pub mod LineStops
 pub mod Stops
+pub mod Taken
 pub mod Tasks
 pub mod Transcript
 pub mod RowPages
 pub mod RowCounts
 pub mod Headline
-pub mod RenderedPages

@@ -1,8 +1,8 @@
 -- The stops that faults of reading lines and site texts are.
 use Rattle.dup_io.specs.declared.lines.LineFault.{LineFault}
 use Rattle.dup_io.specs.declared.lines.LineFault.TheVariants as fault
-use Rattle.dup_site.specs.declared.reading.SiteTextRefusal.{SiteTextRefusal}
-use Rattle.dup_site.specs.declared.reading.SiteTextRefusal.TheVariants as refusal
+use Rattle.dup_template.specs.declared.refusal.SiteTextRefusal.{SiteTextRefusal}
+use Rattle.dup_template.specs.declared.refusal.SiteTextRefusal.TheVariants as refusal
 use Rattle.dup_main.specs.declared.stop.Stop.{Stop}
 use Rattle.dup_main.specs.declared.stop.Stop.TheVariants.{ReadFault, BadSite, NoMemory, LineTooLong, InputTooLong}
 

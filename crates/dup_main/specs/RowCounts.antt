@@ -11,7 +11,7 @@ use Rattle.dup_model.specs.Pages.{live}
 use Rattle.dup_model.specs.Skeletons.{read_by}
 use Rattle.dup_model.specs.Tables.{TablesRise}
 use Rattle.dup_model.specs.Touched.{differs, expanded, joined, is_in, without}
-use Rattle.dup_main.specs.FirstForm.{is_first_form, is_simple}
+use Rattle.dup_model.specs.FirstForm.{is_first_form, is_simple}
 
 -- an item that a statement reads at a row differs
 abbrev pub is_read_anew : Content → Content → Word → Statement → Bool

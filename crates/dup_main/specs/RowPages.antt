@@ -10,7 +10,7 @@ use Rattle.dup_model.specs.Content.{Content, IsOf, keys}
 use Rattle.dup_model.specs.Pages.{live}
 use Rattle.dup_model.specs.Show.{show}
 use Rattle.dup_model.specs.Tables.{TablesRise}
-use Rattle.dup_main.specs.FirstForm.{is_first_form}
+use Rattle.dup_model.specs.FirstForm.{is_first_form}
 use Rattle.dup_main.specs.Kept.{plain_look}
 use Rattle.dup_model.specs.Script.{whole_site}
 

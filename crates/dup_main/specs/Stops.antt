@@ -1,14 +1,16 @@
 -- Why a run stops, and what is written then.
 use Rattle.std.specs.Prelude.{◌≡◌, ◌⊎◌, ℕ, ◌+◌, Bool, true, false, [], ◌++◌, Option, Some, None, Result, Err}
 use Rattle.std.specs.Io.KnownBytes.{Appends}
-use Rattle.dup_io.specs.Reading.{Reading, reading}
+use Rattle.dup_names.specs.Lines.{Reading, reading}
 use Rattle.dup_names.specs.Words.{Word}
 use Rattle.dup_template.specs.declared.site.Parts.{Parts}
 use Rattle.dup_main.specs.declared.stop.Stop.{Stop}
 use Rattle.dup_main.specs.declared.stop.Stop.TheVariants.{ReadFault, WriteFault, BadSite, NotBuilt, NoMemory, LineTooLong, InputTooLong}
-use Rattle.dup_main.specs.BadSites.{bad_site_text, not_built_site}
-use Rattle.dup_main.specs.declared.task.Task.{Task}
-use Rattle.dup_main.specs.Transcript.{IsTranscript, too_long_line, too_long_input, too_long, site_text, site_lines, site_is_read, script, ending}
+use Rattle.dup_model.specs.BadSites.{bad_site_text, not_built_site}
+use Rattle.dup_model.specs.declared.task.Task.{Task}
+use Rattle.dup_main.specs.Transcript.{grammars}
+use Rattle.dup_model.specs.Transcript.{IsTranscript, too_long_line, too_long_input, too_long, ending}
+use Rattle.dup_model.specs.Inputs.{site_text, site_lines, site_is_read, script}
 
 -- a line or the input that is too long stands in the reading
 abbrev pub IsTooLong : Stop → Word → Type 0
@@ -88,7 +90,7 @@ writes stop = cuts stop
 abbrev pub StopsAt : Task → Stop → Option Word → Option Word → Option Word → Type 0
 StopsAt task stop None old new = Unit {0}
 StopsAt task stop (Some input) old new =
-    writes stop ≡ true → (done : Word) × IsTranscript task (reading 0 0 input) (stop_status stop) (done ++ stop_text stop) × Appends old new done
+    writes stop ≡ true → (done : Word) × IsTranscript grammars task (reading 0 0 input) (stop_status stop) (done ++ stop_text stop) × Appends old new done
 
 -- a text without a site that the task takes, whose line stands in its place; or want of memory
 abbrev pub BarsSite : Stop → Result Parts Word → Type 0

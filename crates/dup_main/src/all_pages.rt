@@ -3,7 +3,7 @@ ghost use Rattle.std.specs.Prelude.{◌≡◌, ◌≢◌, ◌⊎◌, IfErr, IfOk
 ghost use Rattle.std.specs.Io.KnownBytes.{Appends};
 ghost use Rattle.dup_io.specs.Causes.{Rose};
 ghost use Rattle.dup_model.specs.Jobs.{IsJob, JobsFit};
-ghost use Rattle.dup_main.specs.RenderedPages.{page_text, pages_text};
+ghost use Rattle.dup_model.specs.RenderedPages.{rendered_page, rendered_pages};
 
 use crate::stop::Stop;
 use dup_io::{Sink, put_all};
@@ -14,9 +14,9 @@ use dup_render::show_plain;
 use std::alloc::Global;
 
 /// What is written of a page: a line of its path and its length, and then its bytes.
-fn page_text(alloc: Global, content: &Content, page: &(Path, Obj)) -> Result<Vec<u8>, NoMemory>
+fn rendered_page(alloc: Global, content: &Content, page: &(Path, Obj)) -> Result<Vec<u8>, NoMemory>
     requires { IsJob content.now.frame page.now.1 }
-    ensures { IfOk result (λ text. text.items ≡ page_text content.now page.now) }
+    ensures { IfOk result (λ text. text.items ≡ rendered_page content.now page.now) }
 {
     let bytes = show_plain(alloc, content, &page.1)?;
     let length = bytes.len();
@@ -33,14 +33,14 @@ fn page_text(alloc: Global, content: &Content, page: &(Path, Obj)) -> Result<Vec
 /// Writes each page in the order of the paths. Each is shown from scratch, and only one is in memory at a time.
 pub(crate) fn put_pages<K: Sink>(alloc: Global, content: &Content, out: &mut K) -> Result<(), Stop>
     requires { JobsFit content.now }
-    ensures written { OnOk result (Appends (K.written out.old) (K.written out.new) (pages_text content.now)) }
+    ensures written { OnOk result (Appends (K.written out.old) (K.written out.new) (rendered_pages content.now)) }
     ensures stopped { IfErr result (λ stop. (stop ≡ Stop.NoMemory) ⊎ (stop ≡ Stop.WriteFault)) }
     ensures write_fault { IsErrOf result Stop.WriteFault → Rose (K.faults out.old) (K.faults out.new) }
     ensures no_write_fault { result ≢ Err Stop.WriteFault → K.faults out.new ≡ K.faults out.old }
 {
     let made = pages(alloc, content)?;
     for page in &made {
-        let text = page_text(alloc, content, page)?;
+        let text = rendered_page(alloc, content, page)?;
         put_all(out, &text)?;
     }
     Ok(())

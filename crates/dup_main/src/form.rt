@@ -1,7 +1,8 @@
 ghost use Rattle.std.specs.Prelude.{◌≡◌, Ok, IfOk, IfErr, true};
 ghost use Rattle.std.specs.List.{list_all};
-ghost use Rattle.dup_main.specs.BadSites.{checked_site, played_site};
-ghost use Rattle.dup_main.specs.FirstForm.{is_family_of, is_first_form, is_kind, is_simple, is_template_of};
+ghost use Rattle.dup_model.specs.BadSites.{or_cause, or_not_built};
+ghost use Rattle.dup_site.specs.Reads.{site_says};
+ghost use Rattle.dup_model.specs.FirstForm.{is_family_of, is_first_form, is_kind, is_simple, is_template_of};
 ghost use Rattle.dup_main.specs.Stops.{BarsSite};
 
 use crate::stop::Stop;
@@ -69,17 +70,17 @@ fn is_first_form(site: &Site) -> bool
 
 /// The good site that a text says.
 pub(crate) fn good_site(alloc: Global, text: &[u8]) -> Result<Site, Stop>
-    ensures site { IfOk result (λ site. checked_site text.now ≡ Ok site) }
-    ensures stopped { IfErr result (λ stop. BarsSite stop (checked_site text.now)) }
+    ensures site { IfOk result (λ site. or_cause (site_says text.now) ≡ Ok site) }
+    ensures stopped { IfErr result (λ stop. BarsSite stop (or_cause (site_says text.now))) }
 {
     Ok(read_site(alloc, text)?)
 }
 
 /// The good site that a text says, where it is one that can be played today.
 pub(crate) fn first_site(alloc: Global, text: &[u8]) -> Result<Site, Stop>
-    ensures site { IfOk result (λ site. played_site text.now ≡ Ok site) }
+    ensures site { IfOk result (λ site. or_not_built (or_cause (site_says text.now)) ≡ Ok site) }
     ensures form { IfOk result (λ site. is_first_form site ≡ true) }
-    ensures stopped { IfErr result (λ stop. BarsSite stop (played_site text.now)) }
+    ensures stopped { IfErr result (λ stop. BarsSite stop (or_not_built (or_cause (site_says text.now)))) }
 {
     let site = good_site(alloc, text)?;
     if is_first_form(&site) {

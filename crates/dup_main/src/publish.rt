@@ -1,9 +1,9 @@
 ghost use Rattle.std.specs.Prelude.{◌≡◌, ◌≤◌, ◌<◌, ◌+◌, ◌^◌, OnOk, map, length, true};
 ghost use Rattle.dup_model.specs.Content.{IsOf, keys, table};
-ghost use Rattle.dup_main.specs.FirstForm.{is_first_form};
+ghost use Rattle.dup_model.specs.FirstForm.{is_first_form};
 ghost use Rattle.dup_main.specs.Kept.{KeepsPages};
 ghost use Rattle.dup_main.specs.RowPages.{row_object, row_page, row_path};
-ghost use Rattle.dup_model.specs.Script.{Published, published, with_page};
+ghost use Rattle.dup_model.specs.Script.{Published, with_pages, with_page};
 
 use crate::edition::{Edition, Rendered};
 use dup_names::{Key, NoMemory, Obj, Path};
@@ -65,7 +65,7 @@ pub(crate) fn publish_rows(
     requires form { is_first_form site.now ≡ true }
     requires content { IsOf site.now content.now }
     requires number { edition.old.number + length (table content.now 0) < 2 ^ 63 }
-    ensures published { OnOk result ((p : Published) → KeepsPages p edition.old → KeepsPages (published version (map (row_page site.now content.now) (keys content.now 0)) p) edition.new) }
+    ensures published { OnOk result ((p : Published) → KeepsPages p edition.old → KeepsPages (with_pages version (map (row_page site.now content.now) (keys content.now 0)) p) edition.new) }
     ensures grows { (edition.old.number ≤ edition.new.number) × (edition.new.number ≤ edition.old.number + length (table content.now 0)) }
 {
     for row in content.rows(0) {

@@ -7,9 +7,10 @@ ghost use Rattle.dup_template.specs.Good.{IsGood};
 ghost use Rattle.dup_template.specs.declared.site.Parts.{Parts as Sites};
 ghost use Rattle.dup_model.specs.Content.{IsOf, start};
 ghost use Rattle.dup_model.specs.declared.command.Command.TheVariants as command;
-ghost use Rattle.dup_main.specs.RenderedPages.{Takes};
+ghost use Rattle.dup_main.specs.Taken.{Takes};
+ghost use Rattle.dup_main.specs.Commands.{message_command};
 ghost use Rattle.dup_main.specs.Stops.{StopsInScript, WritesScript};
-ghost use Rattle.dup_main.specs.Transcript.{RendersLines};
+ghost use Rattle.dup_model.specs.Transcript.{RendersLines};
 
 use crate::all_pages::put_pages;
 use crate::command::read_command;
@@ -74,9 +75,9 @@ pub(crate) fn render_lines<'s, S: Source, K: Sink>(
     requires no_fault { fault_of lines.old ≡ None }
     requires good { IsGood site }
     ensures same_reference { reference_of lines.new ≡ reference_of lines.old }
-    ensures written { OnOk result (WritesScript (RendersLines site (number_of lines.old)) (to_read S.left lines.old) (K.written out.old) (K.written out.new)) }
+    ensures written { OnOk result (WritesScript (RendersLines message_command site (number_of lines.old)) (to_read S.left lines.old) (K.written out.old) (K.written out.new)) }
     ensures at_end { OnOk result (IsAtEnd (S.left (source_of lines.new))) }
-    ensures stopped { IfErr result (λ stop. StopsInScript stop (RendersLines site (number_of lines.old)) (to_read S.left lines.old) (K.written out.old) (K.written out.new)) }
+    ensures stopped { IfErr result (λ stop. StopsInScript stop (RendersLines message_command site (number_of lines.old)) (to_read S.left lines.old) (K.written out.old) (K.written out.new)) }
     ensures read_fault { IsErrOf result Stop.ReadFault → Rose (S.faults (source_of lines.old)) (S.faults (source_of lines.new)) }
     ensures no_read_fault { result ≢ Err Stop.ReadFault → S.faults (source_of lines.new) ≡ S.faults (source_of lines.old) }
     ensures write_fault { IsErrOf result Stop.WriteFault → Rose (K.faults out.old) (K.faults out.new) }

@@ -2,9 +2,10 @@ ghost use Rattle.std.specs.Prelude.{◌≡◌, ◌≢◌, ◌+◌, OnOk, IfErr, 
 ghost use Rattle.std.specs.Io.KnownBytes.{IsAtEnd};
 ghost use Rattle.dup_io.specs.Causes.{Rose};
 ghost use Rattle.dup_io.specs.Lines.{to_read, source_of, reference_of, number_of, fault_of};
-ghost use Rattle.dup_main.specs.FirstForm.{is_first_form};
+ghost use Rattle.dup_model.specs.FirstForm.{is_first_form};
+ghost use Rattle.dup_main.specs.Commands.{message_command};
 ghost use Rattle.dup_main.specs.Stops.{StopsInScript, WritesScript};
-ghost use Rattle.dup_main.specs.Transcript.{Writes};
+ghost use Rattle.dup_model.specs.Transcript.{Writes};
 ghost use Rattle.dup_model.specs.Script.{first_session};
 
 use crate::command::read_command;
@@ -24,9 +25,9 @@ pub(crate) fn play_script<'s, S: Source, K: Sink>(
     requires no_fault { fault_of lines.old ≡ None }
     requires form { is_first_form site ≡ true }
     ensures same_reference { reference_of lines.new ≡ reference_of lines.old }
-    ensures written { OnOk result (WritesScript (Writes site first_session (number_of lines.old)) (to_read S.left lines.old) (K.written out.old) (K.written out.new)) }
+    ensures written { OnOk result (WritesScript (Writes message_command site first_session (number_of lines.old)) (to_read S.left lines.old) (K.written out.old) (K.written out.new)) }
     ensures at_end { OnOk result (IsAtEnd (S.left (source_of lines.new))) }
-    ensures stopped { IfErr result (λ stop. StopsInScript stop (Writes site first_session (number_of lines.old)) (to_read S.left lines.old) (K.written out.old) (K.written out.new)) }
+    ensures stopped { IfErr result (λ stop. StopsInScript stop (Writes message_command site first_session (number_of lines.old)) (to_read S.left lines.old) (K.written out.old) (K.written out.new)) }
     ensures read_fault { IsErrOf result Stop.ReadFault → Rose (S.faults (source_of lines.old)) (S.faults (source_of lines.new)) }
     ensures no_read_fault { result ≢ Err Stop.ReadFault → S.faults (source_of lines.new) ≡ S.faults (source_of lines.old) }
     ensures write_fault { IsErrOf result Stop.WriteFault → Rose (K.faults out.old) (K.faults out.new) }

@@ -1,6 +1,6 @@
 ghost use Rattle.std.specs.Prelude.{◌≡◌, ◌≤◌, ◌+◌, ◌^◌, ◌<◌, IfOk, true, nat_eq, length};
 ghost use Rattle.std.specs.List.{list_any};
-ghost use Rattle.dup_main.specs.FirstForm.{is_first_form};
+ghost use Rattle.dup_model.specs.FirstForm.{is_first_form};
 
 use crate::counts::renewed_count;
 use crate::edition::Edition;
@@ -44,7 +44,7 @@ fn has_node(nodes: &[u16], node: u16) -> bool
 impl Session {
     ghost use Rattle.dup_main.specs.Kept.{Acts, IsReady, Keeps};
     ghost use Rattle.dup_model.specs.Commands.{HasOneChange};
-    ghost use Rattle.dup_model.specs.Script.{Session as Sessions, after_command, answer, first_session};
+    ghost use Rattle.dup_model.specs.Script.{Session as Sessions, after_command, play_answer, first_session};
     ghost use Rattle.dup_model.specs.declared.command.Command.TheVariants as command;
 
     /// The session before any command.

@@ -1,12 +1,12 @@
 ghost use Rattle.std.specs.Prelude.{◌≡◌, ◌≢◌, ◌++◌, IfOk, IfErr, OnOk, IsErrOf, Err, None, Some, if◌then◌else◌};
 ghost use Rattle.std.specs.Bool.{OnFalse, OnTrue};
-ghost use Rattle.dup_io.specs.Reading.{Whole};
+ghost use Rattle.dup_names.specs.Lines.{Whole};
 ghost use Rattle.std.specs.Io.KnownBytes.{IsAtEnd};
 ghost use Rattle.dup_io.specs.Causes.{Rose};
 ghost use Rattle.dup_io.specs.Lines.{to_read, source_of, reference_of, number_of, fault_of};
-ghost use Rattle.dup_model.specs.Script.{line as line_text};
+ghost use Rattle.dup_names.specs.Lines.{line as line_text};
 ghost use Rattle.dup_main.specs.Stops.{CountsSite, ReadsSite, StopsInSite};
-ghost use Rattle.dup_main.specs.Transcript.{is_end};
+ghost use Rattle.dup_model.specs.Inputs.{is_end};
 
 use crate::stop::Stop;
 use dup_io::{Lines, Source};

@@ -1,13 +1,7 @@
 ghost use Rattle.std.specs.Prelude.{◌≡◌};
 ghost use Rattle.dup_main.specs.Tasks.{task_named, task_of};
 
-/// What the words of a command line ask for.
-#[derive(Clone, Copy)]
-pub(crate) enum Task {
-    Play,
-    Check,
-    Render,
-}
+use dup_model::Task;
 
 fn task_named(word: &[u8]) -> Option<Task>
     ensures { result ≡ task_named word.now }

@@ -3,7 +3,8 @@ ghost use Rattle.std.specs.Fmt.{decimal};
 ghost use Rattle.dup_model.specs.Commits.{Refusal};
 ghost use Rattle.dup_records.specs.Refusals.{Names};
 ghost use Rattle.dup_main.specs.Kept.{page_of};
-ghost use Rattle.dup_model.specs.Script.{found_text, line, refusal_text, settled_text};
+ghost use Rattle.dup_model.specs.Script.{found_text, refusal_text, settled_text};
+ghost use Rattle.dup_names.specs.Lines.{line};
 
 use crate::edition::Rendered;
 use dup_names::NoMemory;
@@ -79,7 +80,7 @@ pub(crate) fn settled_text(
     renewed: usize,
     kept: usize,
 ) -> Result<String, AllocError>
-    ensures { IfOk result (λ text. string_bytes text ≡ settled_text version edition bundles renewed renewed kept) }
+    ensures { IfOk result (λ text. string_bytes text ≡ settled_text edition bundles (record { version = version; expanded = renewed; joined = renewed; kept = kept })) }
 {
     format!(in alloc;
         "settled {version} edition {edition} bundles {bundles} expanded {renewed} joined {renewed} kept {kept}\n"

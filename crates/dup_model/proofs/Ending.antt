@@ -9,7 +9,7 @@ use Rattle.std.proofs.lemmas.List.Sums.{fold-append}
 use Rattle.std.proofs.Math.Seq.{take-length}
 use Rattle.dup_template.specs.declared.site.Parts.{Parts}
 use Rattle.dup_model.specs.Content.{start}
-use Rattle.dup_model.specs.Versions.{content}
+use Rattle.dup_model.specs.Versions.{content, target_content}
 use Rattle.dup_model.specs.Journal.{Limits}
 use Rattle.dup_model.specs.Pages.{target, live}
 use Rattle.dup_model.specs.Needs.{changed}
@@ -24,7 +24,7 @@ use Rattle.dup_model.specs.Press.{at, target_of, opened, begun, finished}
 use Rattle.dup_model.specs.Run.{step}
 use Rattle.dup_model.specs.Embeddings.{EmbedsEarlier}
 use Rattle.dup_model.specs.Status.{NothingPending}
-use Rattle.dup_model.specs.Settle.{settling, publishes, target_content, begun_work, IsPublished, SettleEnds}
+use Rattle.dup_model.specs.Settle.{settling, publishes, begun_work, IsPublished, SettleEnds}
 use Rattle.dup_model.proofs.Settling.{Ends, resumed, fresh}
 use Rattle.dup_model.proofs.Publishing.{publish_ends}
 
@@ -73,7 +73,7 @@ module _ (site : Parts) (limits : Limits) (w : World) (earlier : EmbedsEarlier (
   from_target : w.work ≡ None → (w.target ≡ Some (length w.commits) → ⊥) → Settles
   from_target idle other =
       let e = fresh site limits w earlier empty idle other in
-      then_published (length (expanded (target_content site w) (content site w.commits))) e.0
+      then_published (length (expanded (target_content site w.commits w.target) (content site w.commits))) e.0
       (record { idle = e.1.idle; made = e.1.target ∙ ap (λ l. Some (length l)) (sym e.1.commits) })
 
   -- nothing is begun over a target of the last version

@@ -48,3 +48,8 @@ pub mod Pending
 pub mod PressRowsComputed
 pub mod FoundWords
 pub mod Changes
+pub mod CommandTable
+pub mod Numbers
+pub mod Transcripts
+pub mod WrittenLines
+pub mod ScriptRowsComputed

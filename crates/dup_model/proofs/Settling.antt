@@ -19,7 +19,7 @@ use Rattle.dup_model.specs.Frame.{frame_of}
 use Rattle.dup_model.specs.Content.{Content, IsOf, start, body_at, value}
 use Rattle.dup_model.specs.Names.{template_at}
 use Rattle.dup_model.specs.Commits.{Commit}
-use Rattle.dup_model.specs.Versions.{content, version}
+use Rattle.dup_model.specs.Versions.{content, version, target_content}
 use Rattle.dup_model.specs.Journal.{Limits}
 use Rattle.dup_model.specs.Pages.{live}
 use Rattle.dup_model.specs.Touched.{same_obj, is_in, without, differs, touched, affected, renewed, expanded, joined}
@@ -33,7 +33,7 @@ use Rattle.dup_model.specs.Press.{joined as join_step}
 use Rattle.dup_model.specs.Press.{at, opened, begun, handed_to, handed, kept, put_from, joined_by, finished_by, finished}
 use Rattle.dup_model.specs.Run.{step}
 use Rattle.dup_model.specs.Embeddings.{EmbedsEarlier, embedded}
-use Rattle.dup_model.specs.Settle.{hands, joins, settling, target_content, counts_of, begun_work, IsSettled, SettleReports, SettleResumes, NothingIsDone}
+use Rattle.dup_model.specs.Settle.{hands, joins, settling, counts_of, begun_work, IsSettled, SettleReports, SettleResumes, NothingIsDone}
 use Rattle.dup_model.proofs.Reached.{or_right}
 use Rattle.dup_model.proofs.Histories.{content_of}
 use Rattle.dup_model.proofs.Earlier.{obj_itself, in_ordered}
@@ -299,8 +299,8 @@ module _ (site : Parts) (limits : Limits) (w0 : World) where
   -- the start of a work
   record AreBegun (w : World) (work : Work) : Type 0 where
     pub stands : Stands w0 w work
-    pub done : without (is_in work.done) (live end) ≡ expanded (target_content site w0) end
-    pub looked : without (is_in work.looked) (live end) ≡ joined (target_content site w0) end
+    pub done : without (is_in work.done) (live end) ≡ expanded (target_content site w0.commits w0.target) end
+    pub looked : without (is_in work.looked) (live end) ≡ joined (target_content site w0.commits w0.target) end
     pub once : work.once ≡ []
     pub expanded : work.expanded ≡ 0
     pub joined : work.joined ≡ 0
@@ -502,13 +502,13 @@ module _ (site : Parts) (limits : Limits) (w : World) (earlier : EmbedsEarlier (
   resumed work has = settled_from (step site limits w Begin) (begun_work site w work) refl (begin_open work has)
 
   pub fresh : w.work ≡ None → (w.target ≡ Some (length w.commits) → ⊥) →
-      (m : ℕ) × IsSettled w (counts_of (target_content site w) close (length w.commits)) (fold (step site limits) w (settling (length (expanded (target_content site w) close)) m))
+      (m : ℕ) × IsSettled w (counts_of (target_content site w.commits w.target) close (length w.commits)) (fold (step site limits) w (settling (length (expanded (target_content site w.commits w.target) close)) m))
   fresh idle other =
       let b : (work : Work) × AreBegun site limits w (step site limits w Begin) work = begins site limits w idle empty w.target refl other in
       let e : (m : ℕ) × Ends site limits w (fold (step site limits) w (settling (length (without (is_in b.0.done) (live close))) m)) b.0 =
       settled_from (step site limits w Begin) b.0 refl b.1.stands in (
         e.0,
-        subst (λ k. IsSettled w (counts_of (target_content site w) close (length w.commits)) (fold (step site limits) w (settling k e.0))) (ap length b.1.done) (record {
+        subst (λ k. IsSettled w (counts_of (target_content site w.commits w.target) close (length w.commits)) (fold (step site limits) w (settling k e.0))) (ap length b.1.done) (record {
           idle = e.1.idle;
           target = e.1.target;
           commits = e.1.commits;
@@ -532,9 +532,9 @@ module _ (site : Parts) (limits : Limits) (w : World) (earlier : EmbedsEarlier (
       not_not true = refl
       not_not false = refl
 
-      old_left : (work : Work) → without (is_in work.looked) (live close) ≡ joined (target_content site w) close →
-          filter (λ x. is_in work.looked x && not (is_in [] x)) (live close) ≡ without (is_in (joined (target_content site w) close)) (live close)
-      old_left work is = filter_same (λ x. is_in work.looked x && not (is_in [] x)) (λ x. not (is_in (joined (target_content site w) close) x)) (live close) (λ x inside.
+      old_left : (work : Work) → without (is_in work.looked) (live close) ≡ joined (target_content site w.commits w.target) close →
+          filter (λ x. is_in work.looked x && not (is_in [] x)) (live close) ≡ without (is_in (joined (target_content site w.commits w.target) close)) (live close)
+      old_left work is = filter_same (λ x. is_in work.looked x && not (is_in [] x)) (λ x. not (is_in (joined (target_content site w.commits w.target) close) x)) (live close) (λ x inside.
           and_true (is_in work.looked x) ∙ not_not (is_in work.looked x)
           ∙ ap (λ b. not (b && not (is_in work.looked x))) (sym inside)
           ∙ ap not (sym (in_filter (λ o. not (is_in work.looked o)) (live close) x) ∙ ap (λ l. is_in l x) is))

@@ -1,5 +1,5 @@
--- The limits of a journal and of a kind's rows, and why a commit is refused.
-use Rattle.std.specs.Prelude.{ℕ, ◌+◌, ◌||◌, not, nat_lt, List, length, Option, Some, None, if◌then◌else◌}
+-- The limits of a journal and of a kind's rows, why a commit is refused, and what joins the journal.
+use Rattle.std.specs.Prelude.{ℕ, ◌+◌, ◌||◌, not, nat_lt, List, [], ◌∷◌, ◌++◌, length, Option, Some, None, if◌then◌else◌}
 use Rattle.std.specs.List.{sum_by}
 use Rattle.std.specs.Option.{option_or}
 use Rattle.dup_template.specs.declared.site.Parts.{Parts}
@@ -39,3 +39,8 @@ journal_full limits commits commit =
 abbrev pub commit_refusal : Parts → Limits → List Commit → Commit → Option Refusal
 commit_refusal site limits commits commit =
     option_or (journal_full limits commits commit) (refusal (content site commits) commit limits.rows)
+
+-- the commits once another came: one that is refused doesn't join them
+abbrev pub unless_refused : List Commit → Commit → Option Refusal → List Commit
+unless_refused commits commit None = commits ++ commit ∷ []
+unless_refused commits commit (Some why) = commits

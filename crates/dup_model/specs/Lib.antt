@@ -52,3 +52,10 @@ pub mod Numbers
 pub mod Commands
 pub mod Script
 pub mod Transcript
+pub mod BadSites
+pub mod FirstForm
+pub mod Inputs
+pub mod RenderedPages
+pub mod CommandTable
+pub mod WrittenLines
+pub mod ScriptRows

@@ -13,7 +13,8 @@ use Rattle.dup_model.specs.Pages.{Target, live}
 use Rattle.dup_model.specs.Touched.{is_in, without}
 use Rattle.dup_model.specs.Editions.{edition, history, bundle_of}
 use Rattle.dup_model.specs.Bundles.{bundle}
-use Rattle.dup_model.specs.World.{World, Work, Slot, Joined, Ended, told}
+use Rattle.dup_model.specs.Journal.{unless_refused}
+use Rattle.dup_model.specs.World.{World, Work, Slot, Told, Joined, Ended, told}
 use Rattle.dup_model.specs.World.Begun.{Same, Nothing, Opened}
 use Rattle.dup_model.specs.World.Told.{Committed, Refused, Begins, SlotBusy, Handed, NoneWaits, SlotEmpty, Kept, Stale, Unasked, Joins, Finished, Published, NothingChanged}
 use Rattle.dup_model.specs.Works.{waiting, unjoined, level, first_work, work_from, moved, next_of, notes, stale, with_done, with_joined}
@@ -22,10 +23,14 @@ use Rattle.dup_model.specs.Works.{waiting, unjoined, level, first_work, work_fro
 abbrev pub at : Parts → World → ℕ → Content
 at site w v = version site w.commits v
 
+-- what is told of a commit that is refused for this cause, if any
+abbrev pub commit_told : World → Option Refusal → Told
+commit_told w None = Committed (length w.commits + 1)
+commit_told w (Some why) = Refused why
+
 -- a commit comes, and is refused for this cause, if any
 abbrev pub committed : Commit → Option Refusal → World → World
-committed c (Some why) w = told (Refused why) w
-committed c None w = told (Committed (length w.commits + 1)) (record w { commits = w.commits ++ c ∷ [] })
+committed c why w = told (commit_told w why) (record w { commits = unless_refused w.commits c why })
 
 -- this work is open at the last version
 abbrev pub opened : Parts → Work → World → World

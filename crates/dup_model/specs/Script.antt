@@ -3,19 +3,20 @@ use Rattle.std.specs.Prelude.{ℕ, ◌+◌, ◌-◌, Bool, false, not, List, [],
 use Rattle.std.specs.Fmt.{decimal}
 use Rattle.std.specs.List.{fold, list_any}
 use Rattle.std.specs.FinMap as fin
-use Rattle.std.specs.Option.{option_map}
+use Rattle.dup_names.specs.Lines.{line}
 use Rattle.dup_names.specs.Words.{Word, Path}
 use Rattle.dup_names.specs.declared.value.Look.{Look}
 use Rattle.dup_template.specs.declared.site.Parts.{Parts}
 use Rattle.dup_model.specs.Content.{Content}
 use Rattle.dup_model.specs.Commits.{Commit, Refusal, UnknownKind, UnknownField, NoRow, KindFull, JournalFull, refusal}
-use Rattle.dup_model.specs.Versions.{content, version}
+use Rattle.dup_model.specs.Versions.{content, target_content}
 use Rattle.dup_model.specs.Looks.{look}
-use Rattle.dup_model.specs.Pages.{pages, live}
+use Rattle.dup_model.specs.Pages.{pages}
 use Rattle.dup_model.specs.Needs.{same_look}
-use Rattle.dup_model.specs.Touched.{expanded, joined, is_in, without}
 use Rattle.dup_model.specs.Editions.{Page, Edition}
-use Rattle.dup_model.specs.Journal.{usual_limits}
+use Rattle.dup_model.specs.Journal.{unless_refused, usual_limits}
+use Rattle.dup_model.specs.Settle.{counts_of}
+use Rattle.dup_model.specs.World.{Counts}
 use Rattle.dup_model.specs.Commands.{Command}
 use Rattle.dup_model.specs.declared.command.Command.TheVariants as command
 
@@ -29,10 +30,6 @@ pub record Session : Type 0 where
 
 abbrev pub first_session : Session
 first_session = record { commits = []; target = None; number = 0; edition = fin.empty; nodes = [] }
-
--- a line of a text and its end
-abbrev pub line : Word → Word
-line text = text ++ 10 ∷ []
 
 -- the whole site at a content, in path order: each page's path and look
 abbrev pub whole_site : Content → List (Path × Look)
@@ -55,38 +52,39 @@ with_page version p at =
     else (record { number = p.number + 1; edition = fin.insert p.edition at.0 (record { path = at.0; version = version; look = at.1 }) })
 
 -- the pages of a version, published in path order
-abbrev pub published : ℕ → List (Path × Look) → Published → Published
-published version site p = fold (with_page version) p site
+abbrev pub with_pages : ℕ → List (Path × Look) → Published → Published
+with_pages version site p = fold (with_page version) p site
 
-abbrev pub target_content : Parts → Session → Option Content
-target_content site s = option_map (version site s.commits) s.target
-
-abbrev pub published_by : Parts → Session → Published
-published_by site s =
-    published (length s.commits) (whole_site (content site s.commits)) (record { number = s.number; edition = s.edition })
+abbrev pub settled_edition : Parts → Session → Published
+settled_edition site s =
+    with_pages (length s.commits) (whole_site (content site s.commits)) (record { number = s.number; edition = s.edition })
 
 abbrev pub settled : Parts → Session → Session
 settled site s = record s {
   target = Some (length s.commits);
-  number = (published_by site s).number;
-  edition = (published_by site s).edition;
+  number = (settled_edition site s).number;
+  edition = (settled_edition site s).edition;
 }
 
-abbrev pub committed : Session → Commit → Option Refusal → Session
-committed s commit (Some why) = s
-committed s commit None = record s { commits = s.commits ++ commit ∷ [] }
+-- why a commit is refused behind these commits, with the usual room for rows
+abbrev pub refused_behind : Parts → List Commit → Commit → Option Refusal
+refused_behind site commits commit = refusal (content site commits) commit usual_limits.rows
+
+-- the commits once another came
+abbrev pub with_commit : Parts → List Commit → Commit → List Commit
+with_commit site commits commit = unless_refused commits commit (refused_behind site commits commit)
 
 abbrev pub has_node : Session → ℕ → Bool
 has_node s node = list_any (nat_eq node) s.nodes
 
-abbrev pub with_node : Session → ℕ → Session
-with_node s node = if has_node s node then s else record s { nodes = s.nodes ++ node ∷ [] }
+abbrev pub add_node : Session → ℕ → Session
+add_node s node = if has_node s node then s else record s { nodes = s.nodes ++ node ∷ [] }
 
 -- after a command
 abbrev pub after_command : Parts → Session → Command → Session
-after_command site s (command.Commit commit) = committed s commit (refusal (content site s.commits) commit usual_limits.rows)
+after_command site s (command.Commit commit) = record s { commits = with_commit site s.commits commit }
 after_command site s command.Settle = settled site s
-after_command site s (command.Node node) = with_node s node
+after_command site s (command.Node node) = add_node s node
 after_command site s (command.Get node pass path) = s
 after_command site s command.Blank = s
 after_command site s command.NotBuilt = s
@@ -102,18 +100,16 @@ abbrev pub commit_text : Session → Option Refusal → Word
 commit_text s (Some why) = refusal_text why
 commit_text s None = line (codes "committed " ++ decimal (length s.commits + 1))
 
--- the version, the edition, its bundles, and how many objects were expanded, joined and kept
-abbrev pub settled_text : ℕ → ℕ → ℕ → ℕ → ℕ → ℕ → Word
-settled_text version edition bundles expanded joined kept =
-    line (codes "settled " ++ decimal version ++ codes " edition " ++ decimal edition ++ codes " bundles " ++ decimal bundles
-    ++ codes " expanded " ++ decimal expanded ++ codes " joined " ++ decimal joined ++ codes " kept " ++ decimal kept)
+-- the version, the edition, the bundles that made it, and how many objects were expanded, joined and kept
+abbrev pub settled_text : ℕ → ℕ → Counts → Word
+settled_text edition bundles counts =
+    line (codes "settled " ++ decimal counts.version ++ codes " edition " ++ decimal edition ++ codes " bundles " ++ decimal bundles
+    ++ codes " expanded " ++ decimal counts.expanded ++ codes " joined " ++ decimal counts.joined ++ codes " kept " ++ decimal counts.kept)
 
 abbrev pub settle_text : Parts → Session → Word
 settle_text site s =
-    let a = target_content site s in
-    let b = content site s.commits in
-    settled_text (length s.commits) (settled site s).number ((settled site s).number - s.number)
-    (length (expanded a b)) (length (joined a b)) (length (without (is_in (joined a b)) (live b)))
+    settled_text (settled site s).number ((settled site s).number - s.number)
+    (counts_of (target_content site s.commits s.target) (content site s.commits) (length s.commits))
 
 abbrev pub node_text : Session → ℕ → Word
 node_text s node = if has_node s node then line (codes "node " ++ decimal node ++ codes " taken") else line (codes "node " ++ decimal node)
@@ -137,10 +133,10 @@ abbrev pub not_built_text : ℕ → Word
 not_built_text number = line (codes "not built " ++ decimal number)
 
 -- the answer to the command in the line of this number
-abbrev pub answer : Parts → Session → ℕ → Command → Word
-answer site s number (command.Commit commit) = commit_text s (refusal (content site s.commits) commit usual_limits.rows)
-answer site s number command.Settle = settle_text site s
-answer site s number (command.Node node) = node_text s node
-answer site s number (command.Get node pass path) = get_text s node pass path
-answer site s number command.Blank = []
-answer site s number command.NotBuilt = not_built_text number
+abbrev pub play_answer : Parts → Session → ℕ → Command → Word
+play_answer site s number (command.Commit commit) = commit_text s (refused_behind site s.commits commit)
+play_answer site s number command.Settle = settle_text site s
+play_answer site s number (command.Node node) = node_text s node
+play_answer site s number (command.Get node pass path) = get_text s node pass path
+play_answer site s number command.Blank = []
+play_answer site s number command.NotBuilt = not_built_text number

@@ -1,12 +1,11 @@
 -- The events of settling, what it reports, and that it leaves nothing pending.
 use Rattle.std.specs.Prelude.{◌≡◌, ◌==◌, ℕ, zero, suc, ◌≤◌, ◌-◌, ◌^◌, ◌&&◌, not, List, [], ◌∷◌, ◌++◌, Option, Some, None, length, if◌then◌else◌, false}
 use Rattle.std.specs.List.{fold, filter}
-use Rattle.std.specs.Option.{option_map}
 use Rattle.std.specs.FinMap as fin
 use Rattle.dup_names.specs.Words.{Path}
 use Rattle.dup_template.specs.declared.site.Parts.{Parts}
 use Rattle.dup_model.specs.Content.{Content, start}
-use Rattle.dup_model.specs.Versions.{content, version}
+use Rattle.dup_model.specs.Versions.{content, target_content}
 use Rattle.dup_model.specs.Journal.{Limits}
 use Rattle.dup_model.specs.Pages.{live}
 use Rattle.dup_model.specs.Touched.{expanded, joined, is_in, without}
@@ -38,10 +37,6 @@ publishes (suc n) = Publish ∷ publishes n
 -- settling up to its report: so many objects are handed, and so many levels joined
 abbrev pub settling : ℕ → ℕ → List Event
 settling k m = Begin ∷ (hands k ++ (joins m ++ Finish ∷ []))
-
--- the content of the target, if there is one
-abbrev pub target_content : Parts → World → Option Content
-target_content site w = option_map (version site w.commits) w.target
 
 -- the counts on the way from a target to version v with content b; a count is the size, or its last value
 abbrev pub counts_of : Option Content → Content → ℕ → Counts
@@ -79,8 +74,8 @@ pub record IsSettled (w : World) (counts : Counts) (v : World) : Type 0 where
 abbrev pub SettleReports : Type 0
 SettleReports = (site : Parts) (limits : Limits) (w : World) → EmbedsEarlier (start site) →
     w.work ≡ None → (w.target ≡ Some (length w.commits) → ⊥) → fin.get w.slots 0 ≡ None →
-    (m : ℕ) × IsSettled w (counts_of (target_content site w) (content site w.commits) (length w.commits))
-    (fold (step site limits) w (settling (length (expanded (target_content site w) (content site w.commits))) m))
+    (m : ℕ) × IsSettled w (counts_of (target_content site w.commits w.target) (content site w.commits) (length w.commits))
+    (fold (step site limits) w (settling (length (expanded (target_content site w.commits w.target) (content site w.commits))) m))
 
 -- where the target is of the last version, the same counts say that nothing is done
 abbrev pub NothingIsDone : Type 0

@@ -1,6 +1,7 @@
 -- Histories of commits, and the versions that they make.
-use Rattle.std.specs.Prelude.{◌≡◌, ℕ, List, take, Some, None, slice_get}
+use Rattle.std.specs.Prelude.{◌≡◌, ℕ, List, take, Option, Some, None, slice_get}
 use Rattle.std.specs.List.{fold}
+use Rattle.std.specs.Option.{option_map}
 use Rattle.dup_template.specs.declared.site.Parts.{Parts}
 use Rattle.dup_model.specs.Content.{Content, start}
 use Rattle.dup_model.specs.Commits.{Commit, after, misfit}
@@ -12,6 +13,10 @@ content site commits = fold after (start site) commits
 
 abbrev pub version : Parts → List Commit → ℕ → Content
 version site commits i = content site (take i commits)
+
+-- the content of a target's version, if there is one
+abbrev pub target_content : Parts → List Commit → Option ℕ → Option Content
+target_content site commits target = option_map (version site commits) target
 
 abbrev pub target_at : Parts → List Commit → ℕ → Target
 target_at site commits i = target (version site commits i)

@@ -7,6 +7,7 @@ ghost use Rattle.std.specs.FinMap as fin;
 ghost use Rattle.dup_model.specs.World.{Slot};
 ghost use Rattle.dup_model.specs.PressRows.{events_site, PressRow};
 ghost use Rattle.dup_model.specs.CatchUpRows.{CatchUpRow};
+ghost use Rattle.dup_model.specs.ScriptRows.{ScriptRow};
 
 /// The site of results: what its event page reads, uses and shows, and which commits are refused.
 pub fn results_rows()
@@ -38,4 +39,9 @@ pub fn catch_up_rows()
 pub fn press_rows()
     ensures good { IsGood events_site }
     ensures steps { (slots : fin.FinMap nat_cmp Slot) → PressRow slots }
+{}
+
+/// A script over one event page: what is written for its input, byte by byte.
+pub fn script_rows()
+    ensures { ScriptRow }
 {}

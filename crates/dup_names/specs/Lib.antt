@@ -3,3 +3,4 @@ pub mod Order
 pub mod Short
 pub mod Words
 pub mod LineWords
+pub mod Lines

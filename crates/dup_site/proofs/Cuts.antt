@@ -8,7 +8,8 @@ use Rattle.std.specs.Prelude.{slice_index}
 use Rattle.std.specs.Str.{is_utf8, IsUtf8}
 use Rattle.std.proofs.lemmas.Bool.{false_from_ne_true, eqb-true}
 use Rattle.std.proofs.lemmas.Str.{IsUtf8-from_is_utf8, is_utf8-from_IsUtf8, IsUtf8-drop, IsCharBoundary-after_ascii}
-use Rattle.dup_names.specs.LineWords.{line_words, trimmed, is_space, is_empty, span, starts_spaced}
+use Rattle.dup_names.specs.LineWords.{line_words, trimmed, is_space, is_empty}
+use Rattle.dup_site.specs.Spans.{span, starts_spaced}
 
 pub utf8_true : (bs : List ℕ) → IsUtf8 bs → true ≡ is_utf8 bs
 utf8_true bs h = sym (is_utf8-from_IsUtf8 bs h)

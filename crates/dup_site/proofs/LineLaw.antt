@@ -1,14 +1,16 @@
 -- A line that was written is read as the same line.
 use Rattle.dup_names.specs.Words.{Word}
 use Rattle.std.proofs.Common.{◌≡◌, ℕ, zero, suc, ◌<◌, List, [], ◌∷◌, ◌++◌, map, length, refl, ap, ap₂, subst, ◌∙◌, arith}
-use Rattle.std.specs.Prelude.{Bool, true, false, not, ◌&&◌, ◌||◌, Option, Some, None, Ok, codes, nat_eq, nat_le, if◌then◌else◌}
+use Rattle.std.specs.Prelude.{Bool, true, false, not, ◌&&◌, Option, Some, None, Ok, codes, nat_eq, nat_le, if◌then◌else◌}
 use Rattle.std.specs.List.{flat_map, list_all, slice_split, onto_first}
 use Rattle.std.specs.Str.{is_utf8, IsUtf8, IsAscii}
-use Rattle.std.proofs.lemmas.Bool.{and_parts, and_from, or_cases, or_left, or_right, cond-false, not-true, leb-true, eqb-true, false_from_ne_true, false≢true}
+use Rattle.std.proofs.lemmas.Bool.{and_parts, and_from, or_cases, cond-false, not-true, leb-true, eqb-true, false_from_ne_true, false≢true}
 use Rattle.std.proofs.lemmas.Str.{IsUtf8-append, IsUtf8-from_is_utf8, is_utf8-from_IsUtf8, IsUtf8-from_ascii, IsUtf8-nil}
-use Rattle.dup_names.specs.Grammar.{is_name, is_path, is_name_byte, is_key_byte, is_path_byte, is_lower, are_segments}
+use Rattle.dup_names.specs.Grammar.{is_name, is_path}
 use Rattle.dup_template.specs.Texts.{is_plain, is_prefix, is_line_byte}
-use Rattle.dup_names.specs.LineWords.{line_words, trimmed, spaced, text_lines, is_space, is_empty, without_last, is_feed}
+use Rattle.dup_names.proofs.LineWords.{is_word_byte, is_word, space-no, bytes-of, words-law, name-word, path-word}
+use Rattle.dup_names.specs.LineWords.{line_words, trimmed, spaced, is_space}
+use Rattle.dup_names.specs.Lines.{text_lines, without_last, is_feed}
 use Rattle.dup_site.specs.Spelling.{line_of, by_start, say_line, by_words, line_text, is_spelled, is_spelled_head, is_spelled_page, is_named, with_word, head_words, page_words, text_says, written}
 use Rattle.dup_template.specs.declared.site.Parts.{Parts}
 use Rattle.dup_site.specs.Draft.{said}
@@ -21,47 +23,8 @@ use Rattle.dup_site.specs.declared.line.Line.TheVariants as line
 use Rattle.dup_site.specs.declared.line.Head.{Head}
 use Rattle.dup_site.specs.declared.line.Head.TheVariants.{Template, If, Each, Link}
 
--- a byte of a word: of a name, a path or a keyword
-abbrev is_word_byte : ℕ → Bool
-is_word_byte b = is_path_byte b || nat_eq b 47
-
-abbrev is_word : Word → Bool
-is_word w = not (is_empty w) && list_all is_word_byte w
-
-space-no : (b : ℕ) → is_word_byte b ≡ true → is_space b ≡ false
-space-no b h = false_from_ne_true (is_space b) (λ e. false≢true (subst (λ (x : ℕ). is_word_byte x ≡ true) (eqb-true b 32 e) h))
-
 feed-no : (b : ℕ) → is_word_byte b ≡ true → is_feed b ≡ false
 feed-no b h = false_from_ne_true (is_feed b) (λ e. false≢true (subst (λ (x : ℕ). is_word_byte x ≡ true) (eqb-true b 10 e) h))
-
-split-end : (w : Word) → list_all is_word_byte w ≡ true → slice_split is_space w ≡ w ∷ []
-split-end [] h = refl
-split-end (b ∷ w) h =
-    let both = and_parts (is_word_byte b) (list_all is_word_byte w) h in
-    rw (space-no b both.0, split-end w both.1) refl
-
-split-word : (w : Word) (rest : List ℕ) → list_all is_word_byte w ≡ true → slice_split is_space (w ++ 32 ∷ rest) ≡ w ∷ slice_split is_space rest
-split-word [] rest h = refl
-split-word (b ∷ w) rest h =
-    let both = and_parts (is_word_byte b) (list_all is_word_byte w) h in
-    rw (space-no b both.0, split-word w rest both.1) refl
-
-filled-no : (w : Word) → is_word w ≡ true → is_empty w ≡ false
-filled-no [] h = cc
-filled-no (b ∷ w) h = refl
-
-bytes-of : (w : Word) → is_word w ≡ true → list_all is_word_byte w ≡ true
-bytes-of [] h = refl
-bytes-of (b ∷ w) h = h
-
-words-law : (ws : List Word) → list_all is_word ws ≡ true → line_words (spaced ws) ≡ ws
-words-law [] h = refl
-words-law (w ∷ []) h =
-    let both = and_parts (is_word w) true h in
-    rw (split-end w (bytes-of w both.0), filled-no w both.0) refl
-words-law (w ∷ v ∷ ws) h =
-    let both = and_parts (is_word w) (list_all is_word (v ∷ ws)) h in
-    rw (split-word w (spaced (v ∷ ws)) (bytes-of w both.0), filled-no w both.0) (ap (λ xs. w ∷ xs) (words-law (v ∷ ws) both.1))
 
 -- words are ASCII
 ascii-byte : (b : ℕ) → is_word_byte b ≡ true → b < 128
@@ -89,48 +52,6 @@ utf8-spaced (w ∷ v ∷ ws) h =
     let both = and_parts (is_word w) (list_all is_word (v ∷ ws)) h in
     IsUtf8-append w (32 ∷ spaced (v ∷ ws)) (utf8-word w (bytes-of w both.0))
     (IsUtf8-append (32 ∷ []) (spaced (v ∷ ws)) utf8-space (utf8-spaced (v ∷ ws) both.1))
-
--- names and paths are words
-path_byte-word : (b : ℕ) → is_path_byte b ≡ true → is_word_byte b ≡ true
-path_byte-word b h = or_left (is_path_byte b) (nat_eq b 47) h
-
-name_byte-word : (b : ℕ) → is_name_byte b ≡ true → is_word_byte b ≡ true
-name_byte-word b h = path_byte-word b (or_left (is_key_byte b) (nat_eq b 46) (or_left (is_name_byte b) (nat_eq b 45) h))
-
-name_bytes : (w : Word) → list_all is_name_byte w ≡ true → list_all is_word_byte w ≡ true
-name_bytes [] h = refl
-name_bytes (b ∷ w) h =
-    let both = and_parts (is_name_byte b) (list_all is_name_byte w) h in
-    and_from (is_word_byte b) (list_all is_word_byte w) (name_byte-word b both.0) (name_bytes w both.1)
-
-name-word : (w : Word) → is_name w ≡ true → is_word w ≡ true
-name-word [] h = cc
-name-word (b ∷ w) h =
-    let first = and_parts (is_lower b && list_all is_name_byte (b ∷ w)) (nat_le (length (b ∷ w)) 32) h in
-    name_bytes (b ∷ w) (and_parts (is_lower b) (list_all is_name_byte (b ∷ w)) first.0).1
-
-segments-cons : (s : Bool) (b : ℕ) (w : Word) (e : Bool) → nat_eq b 47 ≡ e →
-    ((t : Bool) → are_segments t w ≡ true → list_all is_word_byte w ≡ true) →
-    (if e then (not s && are_segments true w) else (is_path_byte b && are_segments false w)) ≡ true → list_all is_word_byte (b ∷ w) ≡ true
-segments-cons s b w true is more h =
-    and_from (is_word_byte b) (list_all is_word_byte w) (or_right (is_path_byte b) (nat_eq b 47) is)
-    (more true (and_parts (not s) (are_segments true w) h).1)
-segments-cons s b w false is more h =
-    let both = and_parts (is_path_byte b) (are_segments false w) h in
-    and_from (is_word_byte b) (list_all is_word_byte w) (path_byte-word b both.0) (more false both.1)
-
-segments-bytes : (w : Word) (after_slash : Bool) → are_segments after_slash w ≡ true → list_all is_word_byte w ≡ true
-segments-bytes [] s h = refl
-segments-bytes (b ∷ w) s h = segments-cons s b w (nat_eq b 47) refl (segments-bytes w) h
-
-path-word : (w : Word) → is_path w ≡ true → is_word w ≡ true
-path-word [] h = cc
-path-word (b ∷ []) h = and_from (is_word_byte b) true (or_right (is_path_byte b) (nat_eq b 47) h) refl
-path-word (b ∷ c ∷ w) h =
-    let both = and_parts (nat_eq b 47 && nat_le (length (b ∷ c ∷ w)) 200) (are_segments true (c ∷ w)) h in
-    and_from (is_word_byte b) (list_all is_word_byte (c ∷ w))
-    (or_right (is_path_byte b) (nat_eq b 47) (and_parts (nat_eq b 47) (nat_le (length (b ∷ c ∷ w)) 200) both.0).0)
-    (segments-bytes (c ∷ w) true both.1)
 
 names-words : (ws : List Word) → list_all is_name ws ≡ true → list_all is_word ws ≡ true
 names-words [] h = refl

@@ -5,14 +5,14 @@ use Rattle.std.specs.Prelude.{Bool, true, false, nat_eq, Option, Some, None, Res
 use Rattle.dup_names.specs.declared.shared.NoMemory.{NoMemory}
 use Rattle.dup_template.specs.declared.site.Parts.{Parts}
 use Rattle.dup_site.specs.declared.line.Line.{Line}
-use Rattle.dup_site.specs.declared.reading.SiteTextRefusal.{SiteTextRefusal}
-use Rattle.dup_site.specs.declared.reading.SiteTextRefusal.TheVariants.{BadLine, Check, NoMemory as Wants}
+use Rattle.dup_template.specs.declared.refusal.SiteTextRefusal.{SiteTextRefusal}
+use Rattle.dup_template.specs.declared.refusal.SiteTextRefusal.TheVariants.{BadLine, Check, NoMemory as Wants}
 use Rattle.dup_site.specs.Draft.{Draft, Open, blank, parts_of, step_at, said_from, finished, onward}
 use Rattle.dup_site.specs.Drafted.{Goes}
 use Rattle.dup_site.specs.Kept.{Keeping, IsKept, Keeps, keep_at}
 use Rattle.dup_site.specs.Reads.{Says}
 use Rattle.dup_site.specs.Spelling.{line_of}
-use Rattle.dup_names.specs.LineWords.{text_lines}
+use Rattle.dup_names.specs.Lines.{text_lines}
 use Rattle.dup_site.proofs.Along.{Over, Stacks, Goes_along, Along}
 use Rattle.dup_site.proofs.Steps.{keep-along}
 

@@ -10,8 +10,8 @@ use Rattle.dup_site.specs.declared.line.Line.{Line}
 use Rattle.dup_site.specs.declared.line.Line.TheVariants.{Blank, Kind, Page, Open as Opens, Say, Nl, Field, Key, Embed, End}
 use Rattle.dup_site.specs.declared.line.Head.{Head}
 use Rattle.dup_site.specs.declared.line.Head.TheVariants.{Template, If, Each, Link}
-use Rattle.dup_site.specs.declared.reading.SiteTextRefusal.{SiteTextRefusal}
-use Rattle.dup_site.specs.declared.reading.SiteTextRefusal.TheVariants.{BadLine, Check, NoMemory}
+use Rattle.dup_template.specs.declared.refusal.SiteTextRefusal.{SiteTextRefusal}
+use Rattle.dup_template.specs.declared.refusal.SiteTextRefusal.TheVariants.{BadLine, Check, NoMemory}
 use Rattle.dup_site.specs.Draft.{Draft, is_none, put, step}
 
 -- both break the same rule first, at this depth

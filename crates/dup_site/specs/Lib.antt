@@ -4,4 +4,5 @@ pub mod Drafted
 pub mod Found
 pub mod Kept
 pub mod Reads
+pub mod Spans
 pub mod Spelling

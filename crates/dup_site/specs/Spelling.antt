@@ -12,7 +12,8 @@ use Rattle.dup_site.specs.declared.line.Line.{Line}
 use Rattle.dup_site.specs.declared.line.Line.TheVariants.{Blank, Kind, Page, Open, Say, Nl, Field, Key, Embed, End}
 use Rattle.dup_site.specs.declared.line.Head.{Head}
 use Rattle.dup_site.specs.declared.line.Head.TheVariants.{Template, If, Each, Link}
-use Rattle.dup_names.specs.LineWords.{line_words, trimmed, spaced, text_lines}
+use Rattle.dup_names.specs.LineWords.{line_words, trimmed, spaced}
+use Rattle.dup_names.specs.Lines.{text_lines}
 use Rattle.dup_site.specs.Draft.{said}
 use Rattle.dup_site.specs.Canonical.{site_lines}
 

@@ -1,9 +1,9 @@
 ghost use Rattle.std.specs.Prelude.{◌≡◌, IfOk, IfErr};
-ghost use Rattle.dup_site.specs.declared.reading.SiteTextRefusal.TheVariants as refusal;
+ghost use Rattle.dup_template.specs.declared.refusal.SiteTextRefusal.TheVariants as refusal;
 
-use crate::reading::{SiteTextRefusal, read_site};
+use crate::reading::read_site;
 use crate::writing::site_text;
-use dup_template::Site;
+use dup_template::{Site, SiteTextRefusal};
 use std::alloc::Global;
 
 /// A site read from its own canonical text.

@@ -13,7 +13,8 @@ mod words;
 mod writing;
 
 pub use again::read_again;
-pub use reading::{SiteTextRefusal, read_site};
+pub use dup_template::SiteTextRefusal;
+pub use reading::read_site;
 pub use words::{trimmed, words_of};
 pub use writing::site_text;
 

@@ -1,10 +1,11 @@
 ghost use Rattle.std.specs.Prelude.{◌≡◌, ◌≤◌, ◌<◌, ◌+◌, ◌∷◌, length};
-ghost use Rattle.dup_names.specs.LineWords as words;
+ghost use Rattle.dup_names.specs.Lines as lines;
+ghost use Rattle.dup_site.specs.Spans as spans;
 ghost use Rattle.dup_site.specs.Draft as draft;
 ghost use Rattle.dup_site.specs.Drafted.{drafted, keeping_of, Goes};
 ghost use Rattle.dup_site.specs.Kept as kept;
 ghost use Rattle.dup_site.specs.Kept.{Keeps};
-ghost use Rattle.dup_site.specs.Reads.{Says, Reads};
+ghost use Rattle.dup_site.specs.Reads.{Reads, Says, site_says};
 ghost use Rattle.dup_site.specs.Spelling.{line_of, text_says};
 
 use crate::draft::Reading;
@@ -12,30 +13,12 @@ use crate::keeping::{Keeping, keep};
 use crate::read_line::read_line;
 use dup_lists::Listed;
 use dup_names::NoMemory;
-use dup_template::{Parts, Site, SiteRefusal};
+use dup_template::{Parts, Site, SiteRefusal, SiteTextRefusal};
 use std::alloc::Global;
-
-/// Why a text is no site's.
-#[derive(Clone, Copy, PartialEq, Eq)]
-pub enum SiteTextRefusal {
-    BadLine(u64),
-    Check(SiteRefusal),
-    NoMemory,
-}
-
-impl From<NoMemory> for SiteTextRefusal {
-    ghost use Rattle.dup_site.specs.declared.reading.SiteTextRefusal.TheVariants.{NoMemory};
-
-    ghost from_gives = { λ _ e. e ≡ NoMemory };
-
-    fn from(_fault: NoMemory) -> SiteTextRefusal {
-        SiteTextRefusal::NoMemory
-    }
-}
 
 /// How many bytes stand before the first line feed.
 fn line_span(bytes: &[u8]) -> usize
-    ensures value { result ≡ words.line_span bytes.now }
+    ensures value { result ≡ spans.line_span bytes.now }
     ensures within { result ≤ length bytes.now }
 {
     let mut at = 0;
@@ -48,7 +31,7 @@ fn line_span(bytes: &[u8]) -> usize
 /// The first line, and the text behind it.
 fn cut_line(text: &[u8]) -> (&[u8], &[u8])
     requires { 0 < length text.now }
-    ensures lines { words.text_lines text.now ≡ result.0.now ∷ words.text_lines result.1.now }
+    ensures lines { lines.text_lines text.now ≡ result.0.now ∷ lines.text_lines result.1.now }
     ensures shorter { length result.1.now < length text.now }
 {
     let end = line_span(text);
@@ -119,7 +102,7 @@ fn read_parts(alloc: Global, text: &[u8]) -> Result<Parts, SiteTextRefusal>
 
 /// The site of a text.
 pub fn read_site(alloc: Global, text: &[u8]) -> Result<Site, SiteTextRefusal>
-    ensures { Reads result (text_says text.now) }
+    ensures { Reads result (site_says text.now) }
 {
     let parts = read_parts(alloc, text)?;
     match Site::check(parts) {

@@ -1,6 +1,7 @@
 ghost use Rattle.std.specs.Prelude.{◌≡◌, ◌≤◌, false, IfOk, map, length};
 ghost use Rattle.std.specs.Str.{is_utf8};
 ghost use Rattle.dup_names.specs.LineWords as words;
+ghost use Rattle.dup_site.specs.Spans as spans;
 
 use std::alloc::{AllocError, Global};
 use std::str;
@@ -15,7 +16,7 @@ pub(crate) fn is_text(bytes: &[u8]) -> bool
 /// The bytes without the spaces at the start.
 pub fn trimmed(bytes: &[u8]) -> &[u8]
     ensures value { result.now ≡ words.trimmed bytes.now }
-    ensures start { words.starts_spaced result.now ≡ false }
+    ensures start { spans.starts_spaced result.now ≡ false }
     ensures within { length result.now ≤ length bytes.now }
 {
     let mut rest = bytes;
@@ -27,7 +28,7 @@ pub fn trimmed(bytes: &[u8]) -> &[u8]
 
 /// How many bytes stand before the first space.
 fn span(bytes: &[u8]) -> usize
-    ensures value { result ≡ words.span bytes.now }
+    ensures value { result ≡ spans.span bytes.now }
     ensures within { result ≤ length bytes.now }
 {
     let mut at = 0;

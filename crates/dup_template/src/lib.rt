@@ -15,7 +15,7 @@ mod statement;
 
 pub use paths::{obj_of, page_path, path_of, row_path};
 pub use plain::{Plain, Prefix};
-pub use refusal::{SiteRefusal, What};
+pub use refusal::{SiteRefusal, SiteTextRefusal, What};
 pub use site::{KindPart, PageRule, Parts, Site, TemplatePart};
 pub use statement::{Body, Statement};
 

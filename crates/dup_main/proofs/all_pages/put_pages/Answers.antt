@@ -2,8 +2,8 @@ use Rattle.std.proofs.Common.{rules}
 use Rattle.dup_main.proofs.PageJobs.{page_is_job, more_written}
 use Rattle.dup_main.proofs.all_pages.put_pages.Goals as goal
 
-pub page_text-requires : goal.page_text-requires
-page_text-requires g c =
+pub rendered_page-requires : goal.rendered_page-requires
+rendered_page-requires g c =
     page_is_job c.args.content.now c.deref-page-items.result.now c.loop-page.page-index c.page-item.result c.requires (search rules) c.loop-page-test.true c.page-item.is
 
 pub loop-page-preserved : goal.loop-page-preserved

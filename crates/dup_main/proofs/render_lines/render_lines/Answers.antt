@@ -1,8 +1,9 @@
 use Rattle.std.proofs.Common.{refl, ap, ◌∙◌, Err, rules}
 use Rattle.dup_io.specs.Lines.{number_of}
 use Rattle.dup_io.specs.declared.lines.LineFault.{LineFault}
+use Rattle.dup_main.specs.Commands.{message_command}
 use Rattle.dup_model.proofs.GoodSites.{good_jobs_fit}
-use Rattle.dup_main.specs.Transcript.{RendersLines}
+use Rattle.dup_model.specs.Transcript.{RendersLines}
 use Rattle.dup_main.proofs.CutScripts.{stops_in_script, stops_on_write}
 use Rattle.dup_main.proofs.RenderSoFar.{begun, more, ended_by, reaches}
 use Rattle.dup_main.proofs.SiteSoFar.{due_of}
@@ -44,4 +45,4 @@ lines-preserved g c = record {
 
 pub returns-in_err-put_all-clause-stopped : goal.returns-in_err-put_all-clause-stopped
 returns-in_err-put_all-clause-stopped g c =
-    stops_on_write _ (RendersLines c.args.site (number_of c.args.lines.now)) _ (g.K.Sink.written c.args.out.now) _ c.from_residual-in_err-put_all.ensures.1
+    stops_on_write _ (RendersLines message_command c.args.site (number_of c.args.lines.now)) _ (g.K.Sink.written c.args.out.now) _ c.from_residual-in_err-put_all.ensures.1

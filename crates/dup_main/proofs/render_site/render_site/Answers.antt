@@ -1,8 +1,9 @@
 use Rattle.std.proofs.Common.{ap, refl, rules, []}
 use Rattle.std.proofs.KnownBytes.{Appends-nil}
-use Rattle.dup_main.specs.RenderedPages.{pages_text}
-use Rattle.dup_main.specs.Transcript.{RendersLines}
-use Rattle.dup_main.specs.declared.task.Task.TheVariants.{Render}
+use Rattle.dup_main.specs.Commands.{message_command}
+use Rattle.dup_model.specs.RenderedPages.{rendered_pages}
+use Rattle.dup_model.specs.Transcript.{RendersLines}
+use Rattle.dup_model.specs.declared.task.Task.TheVariants.{Render}
 use Rattle.dup_main.proofs.PageJobs.{first_fits}
 use Rattle.dup_main.proofs.WholeRuns.{reads_from, stopped_by_site, with_script, without_script, count_with_script, ended_without_script, written_by_script, stopped_by_script, does_render}
 use Rattle.dup_main.proofs.render_site.render_site.Goals as goal
@@ -18,15 +19,15 @@ put_pages-requires g c = first_fits c.deref.result.now c.in_ok-site.site _ c.in_
 
 pub returns-clause-written : goal.returns-clause-written
 returns-clause-written g c =
-    ended_without_script Render [] RendersLines does_render _ _ (g.K.Sink.written c.args.out.now) (g.K.Sink.written c.args.out.now) _ _ c.in_ok-read.read.text.items c.deref.result.now
-    (pages_text c.in_ok-content.content) c.in_ok-site.site
+    ended_without_script Render [] (RendersLines message_command) does_render _ _ (g.K.Sink.written c.args.out.now) (g.K.Sink.written c.args.out.now) _ _ c.in_ok-read.read.text.items c.deref.result.now
+    (rendered_pages c.in_ok-content.content) c.in_ok-site.site
     (reads_from _ _ _ _ c.new-lines.ensures.ahead c.new-lines.ensures.first c.new-lines.ensures.taken)
     (without_script c.in_ok-read.read.has_script _ _ _ _ (search rules) c.in_ok-read.ensures.text)
-    c.deref.ensures.value c.in_ok-site.ensures.site (Appends-nil _) (λ n. ap pages_text c.in_ok-content.ensures) c.put_pages.ensures.written
+    c.deref.ensures.value c.in_ok-site.ensures.site (Appends-nil _) (λ n. ap rendered_pages c.in_ok-content.ensures) c.put_pages.ensures.written
 
 pub returns-then-read-clause-written : goal.returns-then-read-clause-written
 returns-then-read-clause-written g c =
-    written_by_script Render [] RendersLines does_render _ _ (g.K.Sink.written c.args.out.now) (g.K.Sink.written c.args.out.now) _ _ _ c.in_ok-read.read.text.items c.deref.result.now c.in_ok-site.site _
+    written_by_script Render [] (RendersLines message_command) does_render _ _ (g.K.Sink.written c.args.out.now) (g.K.Sink.written c.args.out.now) _ _ _ c.in_ok-read.read.text.items c.deref.result.now c.in_ok-site.site _
     (reads_from _ _ _ _ c.new-lines.ensures.ahead c.new-lines.ensures.first c.new-lines.ensures.taken)
     (with_script c.in_ok-read.read.has_script _ _ _ _ c.if-read.true c.in_ok-read.ensures.text)
     (count_with_script c.in_ok-read.read.has_script _ _ _ c.if-read.true c.new-lines.ensures.first c.in_ok-read.ensures.lines)
@@ -34,7 +35,7 @@ returns-then-read-clause-written g c =
 
 pub returns-then-read-clause-stopped : goal.returns-then-read-clause-stopped
 returns-then-read-clause-stopped g c =
-    stopped_by_script Render [] RendersLines does_render _ _ (g.K.Sink.written c.args.out.now) (g.K.Sink.written c.args.out.now) _ _ _ c.in_ok-read.read.text.items c.deref.result.now c.in_ok-site.site _
+    stopped_by_script Render [] (RendersLines message_command) does_render _ _ (g.K.Sink.written c.args.out.now) (g.K.Sink.written c.args.out.now) _ _ _ c.in_ok-read.read.text.items c.deref.result.now c.in_ok-site.site _
     (reads_from _ _ _ _ c.new-lines.ensures.ahead c.new-lines.ensures.first c.new-lines.ensures.taken)
     (with_script c.in_ok-read.read.has_script _ _ _ _ c.if-read.true c.in_ok-read.ensures.text)
     (count_with_script c.in_ok-read.read.has_script _ _ _ c.if-read.true c.new-lines.ensures.first c.in_ok-read.ensures.lines)

@@ -5,8 +5,9 @@ use Rattle.dup_main.proofs.CutScripts.{stops_in_script, stops_on_write}
 use Rattle.dup_main.proofs.ScriptSoFar.{begun, more, ended, reaches, Acts}
 use Rattle.dup_main.proofs.SiteSoFar.{due_of}
 use Rattle.dup_io.specs.Lines.{number_of}
+use Rattle.dup_main.specs.Commands.{message_command}
 use Rattle.dup_model.specs.Script.{first_session}
-use Rattle.dup_main.specs.Transcript.{Writes}
+use Rattle.dup_model.specs.Transcript.{Writes}
 use Rattle.dup_main.proofs.script.play_script.Goals as goal
 
 pub lines-init : goal.lines-init
@@ -49,4 +50,4 @@ lines-preserved g c = record {
 }
 
 pub returns-in_err-put_all-clause-stopped : goal.returns-in_err-put_all-clause-stopped
-returns-in_err-put_all-clause-stopped g c = stops_on_write _ (Writes c.args.site first_session (number_of c.args.lines.now)) _ (g.K.Sink.written c.args.out.now) _ c.from_residual-in_err-put_all.ensures.1
+returns-in_err-put_all-clause-stopped g c = stops_on_write _ (Writes message_command c.args.site first_session (number_of c.args.lines.now)) _ (g.K.Sink.written c.args.out.now) _ c.from_residual-in_err-put_all.ensures.1

@@ -1,6 +1,6 @@
 use Rattle.std.proofs.Common.{◌≡◌, ◌-◌}
 use Rattle.std.specs.Prelude.{None}
-use Rattle.dup_io.specs.Reading.{max_input}
+use Rattle.dup_names.specs.Lines.{max_input}
 use Rattle.dup_io.specs.Lines.{to_read, reference_of, source_of, number_of, fault_of}
 use Rattle.dup_main.proofs.SiteSoFar.{SoFar}
 use Rattle.dup_main.proofs.site_part.read_site_text.Given as goal

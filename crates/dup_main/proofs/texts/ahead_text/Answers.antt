@@ -3,7 +3,7 @@ use Rattle.std.specs.Prelude.{String}
 use Rattle.std.specs.declared.alloc.Global.{Global}
 use Rattle.std.specs.Fmt.{decimal}
 use Rattle.std.proofs.lemmas.Result.{IfOk-weaker}
-use Rattle.dup_model.specs.Script.{line}
+use Rattle.dup_names.specs.Lines.{line}
 use Rattle.dup_main.proofs.texts.ahead_text.Goals as goal
 
 pub returns : goal.returns

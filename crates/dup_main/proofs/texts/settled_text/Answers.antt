@@ -7,5 +7,5 @@ use Rattle.dup_main.proofs.texts.settled_text.Goals as goal
 
 pub returns : goal.returns
 returns c =
-    let P : String Global → Type 0 = λ text. string_bytes text ≡ settled_text c.args.version c.args.edition c.args.bundles c.args.renewed c.args.renewed c.args.kept in
+    let P : String Global → Type 0 = λ text. string_bytes text ≡ settled_text c.args.edition c.args.bundles (record { version = c.args.version; expanded = c.args.renewed; joined = c.args.renewed; kept = c.args.kept }) in
     IfOk-weaker _ _ P (λ text is. is ∙ simp append_assoc) c.format.ensures.ok

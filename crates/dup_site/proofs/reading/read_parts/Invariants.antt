@@ -1,5 +1,5 @@
 use Rattle.std.proofs.Common.{length, ◌<◌, ◌≤◌, ◌+◌, map}
-use Rattle.dup_names.specs.LineWords.{text_lines}
+use Rattle.dup_names.specs.Lines.{text_lines}
 use Rattle.dup_site.specs.Drafted.{keeping_of}
 use Rattle.dup_site.specs.Spelling.{line_of, text_says}
 use Rattle.dup_site.proofs.Lines.{Reading_on}

@@ -1,6 +1,7 @@
 use Rattle.std.proofs.Common.{ap, sym, ◌∙◌}
 use Rattle.std.specs.Prelude.{Ok}
 use Rattle.dup_template.specs.Good.{site_fault}
+use Rattle.dup_site.specs.Reads.{if_said, unless_broken}
 use Rattle.dup_site.proofs.Whole.{kept_fault, kept_good}
 use Rattle.dup_site.proofs.reading.read_site.Goals as goal
 
@@ -9,9 +10,9 @@ returns-in-Ok c =
     let kept = c.in_ok-parts.ensures in
     let site = c.in-Ok.ensures.value in
     let all = kept_good c.in_ok-parts.parts kept.0 kept.2 (sym c.in-Ok.ensures.fault) in
-    (kept.1 ∙ ap Ok (sym (site ∙ all)), ap site_fault site ∙ sym c.in-Ok.ensures.fault)
+    ap if_said (kept.1 ∙ ap Ok (sym (site ∙ all))) ∙ ap (unless_broken _) (ap site_fault site ∙ sym c.in-Ok.ensures.fault)
 
 pub returns-in-Err : goal.returns-in-Err
 returns-in-Err c =
     let kept = c.in_ok-parts.ensures in
-    (kept.0, kept.1, sym (kept_fault c.in_ok-parts.parts kept.0 kept.2) ∙ sym c.in-Err.ensures.fault)
+    ap if_said kept.1 ∙ ap (unless_broken kept.0) (sym (kept_fault c.in_ok-parts.parts kept.0 kept.2) ∙ sym c.in-Err.ensures.fault)

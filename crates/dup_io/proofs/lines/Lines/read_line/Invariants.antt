@@ -1,7 +1,7 @@
 use Rattle.std.proofs.Common.{◌≡◌, ◌+◌, ◌-◌, ◌≤◌, vec_len}
 use Rattle.std.specs.Option.{option_map}
 use Rattle.dup_io.specs.Lines.{ahead, to_read}
-use Rattle.dup_io.specs.Reading.{max_line, max_input}
+use Rattle.dup_names.specs.Lines.{max_line, max_input}
 use Rattle.dup_io.proofs.Scan.{scan}
 use Rattle.dup_io.proofs.Turns.{Same}
 use Rattle.dup_io.proofs.lines.Lines.read_line.Given as goal

@@ -1,31 +1,23 @@
 -- What `render` makes of commands: the commits that it accepts, the answers, and the pages of a content.
-use Rattle.std.specs.Prelude.{◌≡◌, ℕ, ◌+◌, List, [], ◌∷◌, ◌++◌, codes, length, Option, Some, None}
+use Rattle.std.specs.Prelude.{ℕ, ◌+◌, List, [], ◌∷◌, ◌++◌, codes, length, Option, Some, None}
 use Rattle.std.specs.Fmt.{decimal}
 use Rattle.std.specs.List.{flat_map, fold}
+use Rattle.dup_names.specs.Lines.{line}
 use Rattle.dup_names.specs.Words.{Word, Path}
 use Rattle.dup_names.specs.declared.object.Obj.{Obj}
 use Rattle.dup_template.specs.declared.site.Parts.{Parts}
 use Rattle.dup_model.specs.Content.{Content}
-use Rattle.dup_model.specs.Commits.{Commit, Refusal, refusal}
+use Rattle.dup_model.specs.Commits.{Commit, Refusal}
 use Rattle.dup_model.specs.Versions.{content}
-use Rattle.dup_model.specs.Journal.{usual_limits}
 use Rattle.dup_model.specs.Pages.{pages}
 use Rattle.dup_model.specs.Show.{show}
-use Rattle.dup_model.specs.Script.{line, not_built_text, refusal_text}
+use Rattle.dup_model.specs.Script.{not_built_text, refusal_text, refused_behind, with_commit}
 use Rattle.dup_model.specs.Commands.{Command}
 use Rattle.dup_model.specs.declared.command.Command.TheVariants as command
 
--- why a commit is refused behind these commits
-abbrev pub refused_behind : Parts → List Commit → Commit → Option Refusal
-refused_behind site commits commit = refusal (content site commits) commit usual_limits.rows
-
-abbrev pub unless_refused : List Commit → Commit → Option Refusal → List Commit
-unless_refused commits commit None = commits ++ commit ∷ []
-unless_refused commits commit (Some why) = commits
-
--- the commits after a command: a commit that isn't refused is accepted, and nothing else changes them
+-- the commits after a command: nothing but a commit changes them
 abbrev pub accepted : Parts → List Commit → Command → List Commit
-accepted site commits (command.Commit commit) = unless_refused commits commit (refused_behind site commits commit)
+accepted site commits (command.Commit commit) = with_commit site commits commit
 accepted site commits _ = commits
 
 abbrev pub refusal_line : Option Refusal → Word
@@ -49,15 +41,9 @@ abbrev pub last_content : Parts → List Commit → List Command → Content
 last_content site commits commands = content site (fold (accepted site) commits commands)
 
 -- a page: its path and its length in a line, and then what its object shows
-abbrev pub page_text : Content → Path × Obj → Word
-page_text c page = line (codes "page " ++ page.0 ++ codes " " ++ decimal (length (show c page.1))) ++ line (show c page.1)
+abbrev pub rendered_page : Content → Path × Obj → Word
+rendered_page c page = line (codes "page " ++ page.0 ++ codes " " ++ decimal (length (show c page.1))) ++ line (show c page.1)
 
 -- each page, in the order of the paths
-abbrev pub pages_text : Content → Word
-pages_text c = flat_map (page_text c) (pages c)
-
--- what a command makes of a content, and what it is answered
-abbrev pub Takes : Content → Content → ℕ → Command → Word → Type 0
-Takes old new number command text =
-    (site : Parts) (commits : List Commit) → old ≡ content site commits
-    → (new ≡ content site (accepted site commits command)) × (text ≡ render_answer site commits number command)
+abbrev pub rendered_pages : Content → Word
+rendered_pages c = flat_map (rendered_page c) (pages c)
