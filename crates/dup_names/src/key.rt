@@ -6,6 +6,7 @@ ghost use Rattle.dup_names.specs.Grammar.{is_key_byte as key_byte_grammar, is_ke
 use crate::name::is_name_byte;
 use crate::short::Short;
 use dup_lists::Listed;
+use std::fmt::{self, Display, Formatter, Write};
 use std::marker::Model;
 
 pub(crate) fn is_key_byte(byte: u8) -> bool
@@ -43,6 +44,12 @@ impl Model for Key {
     ghost invariant = { λ n. IsTrue (is_key n.text) };
 
     ghost inverse = { λ xs. record { text = xs } };
+}
+
+impl Display for Key {
+    fn fmt<W: Write>(&self, f: &mut Formatter<W>) -> fmt::Result {
+        write!(f, "{}", self.text)
+    }
 }
 
 impl Key {

@@ -4,6 +4,7 @@ ghost use Rattle.std.specs.List.{list_all};
 ghost use Rattle.dup_names.specs.Grammar.{is_name as name_grammar, is_name_byte as name_byte_grammar};
 
 use crate::short::Short;
+use std::fmt::{self, Display, Formatter, Write};
 use std::marker::Model;
 
 pub(crate) fn is_name_byte(byte: u8) -> bool
@@ -41,6 +42,12 @@ impl Model for Name {
     ghost invariant = { λ n. IsTrue (is_name n.text) };
 
     ghost inverse = { λ xs. record { text = xs } };
+}
+
+impl Display for Name {
+    fn fmt<W: Write>(&self, f: &mut Formatter<W>) -> fmt::Result {
+        write!(f, "{}", self.text)
+    }
 }
 
 impl Name {

@@ -4,6 +4,7 @@ ghost use Rattle.dup_names.specs.Grammar.{is_path_byte as path_byte_grammar, are
 
 use crate::key::is_key_byte;
 use crate::short::Short;
+use std::fmt::{self, Display, Formatter, Write};
 use std::marker::Model;
 
 fn is_path_byte(byte: u8) -> bool
@@ -50,6 +51,12 @@ impl Model for Path {
     ghost invariant = { λ n. IsTrue (is_path n.text) };
 
     ghost inverse = { λ xs. record { text = xs } };
+}
+
+impl Display for Path {
+    fn fmt<W: Write>(&self, f: &mut Formatter<W>) -> fmt::Result {
+        write!(f, "{}", self.text)
+    }
 }
 
 impl Path {

@@ -4,7 +4,7 @@ ghost use Rattle.std.specs.Cmp.{partial_equiv_from_equiv};
 ghost use Rattle.std.specs.Cmp.Lexicographic.{pointwise, slice_cmp, nat_list_eq_equiv, nat_list_cmp_total, texts_po, texts_ties};
 
 use std::cmp::Ordering;
-use std::fmt::{self, Debug, Formatter, Write};
+use std::fmt::{self, Debug, Display, Formatter, Write};
 use std::marker::Model;
 use std::str;
 
@@ -52,12 +52,18 @@ impl<const N: usize> Short<N> {
     }
 }
 
-impl<const N: usize> Debug for Short<N> {
+impl<const N: usize> Display for Short<N> {
     fn fmt<W: Write>(&self, f: &mut Formatter<W>) -> fmt::Result {
         match str::from_utf8(self.as_slice()) {
             Ok(text) => write!(f, "{text}"),
             Err(_) => write!(f, "{:?}", self.as_slice()),
         }
+    }
+}
+
+impl<const N: usize> Debug for Short<N> {
+    fn fmt<W: Write>(&self, f: &mut Formatter<W>) -> fmt::Result {
+        write!(f, "{self}")
     }
 }
 

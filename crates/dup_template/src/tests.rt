@@ -1,6 +1,6 @@
-use crate::{Body, Parts, Site, Statement, TemplatePart};
+use crate::{Body, Parts, Site, SiteRefusal, SiteTextRefusal, Statement, TemplatePart, What};
 use dup_lists::Listed;
-use dup_names::Name;
+use dup_names::{Name, Path};
 
 #[test]
 fn template_of_two_statements_is_a_site(rt: HostRuntime) {
@@ -24,4 +24,30 @@ fn template_of_two_statements_is_a_site(rt: HostRuntime) {
     };
     let site = Site::check(parts);
     assert!(rt; site.is_ok());
+}
+
+#[test]
+fn refusals_are_printed(rt: HostRuntime) {
+    let alloc = rt.alloc();
+    let name = Name::read(b"medals").expect(&rt, "a name");
+    let path = Path::read(b"/a.b").expect(&rt, "a path");
+    let rows = [
+        (SiteTextRefusal::BadLine(8), "bad line 8"),
+        (
+            SiteTextRefusal::Check(SiteRefusal::Twice(name)),
+            "twice medals",
+        ),
+        (
+            SiteTextRefusal::Check(SiteRefusal::PathClash(path)),
+            "path clash /a.b",
+        ),
+        (
+            SiteTextRefusal::Check(SiteRefusal::TooMany(What::Nesting)),
+            "too many Nesting",
+        ),
+    ];
+    for (refusal, text) in &rows {
+        let printed = format!(in alloc; "{refusal}").ok().expect(&rt, "memory");
+        assert!(rt; printed.as_str() == *text);
+    }
 }
