@@ -17,3 +17,4 @@ pub mod SiteSoFar
 pub mod Whole
 pub mod WholeRuns
 pub mod WordLemmas
+pub mod Reached

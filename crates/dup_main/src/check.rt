@@ -1,6 +1,7 @@
 ghost use Rattle.std.specs.Prelude.{◌≡◌, ◌≢◌, OnOk, IfErr, IsErrOf, Err};
 ghost use Rattle.dup_io.specs.Causes.{Rose};
 ghost use Rattle.dup_model.specs.declared.task.Task.TheVariants.{Check};
+ghost use Rattle.dup_main.specs.Reach.{ReadsNoFurther};
 ghost use Rattle.dup_main.specs.Stops.{StopsAt};
 ghost use Rattle.dup_main.specs.Transcript.{WritesTranscript};
 
@@ -11,13 +12,14 @@ use dup_io::{Lines, Sink, Source, put_all};
 use dup_site::site_text;
 use std::alloc::Global;
 
-/// Reads a site text, and writes the canonical text of its site.
+/// Reads a site text, and writes the canonical text of its site. Of what stands behind `---` it reads a piece of 4,096 bytes at most.
 pub(crate) fn check_site<S: Source, K: Sink>(
     alloc: Global,
     input: &mut S,
     out: &mut K,
 ) -> Result<(), Stop>
     ensures written { OnOk result (WritesTranscript Check (S.left input.old) (K.written out.old) (K.written out.new) 0) }
+    ensures no_further { OnOk result (ReadsNoFurther (S.left input.old) (S.left input.new)) }
     ensures stopped { IfErr result (λ stop. StopsAt Check stop (S.left input.old) (K.written out.old) (K.written out.new)) }
     ensures read_fault { IsErrOf result Stop.ReadFault → Rose (S.faults input.old) (S.faults input.new) }
     ensures no_read_fault { result ≢ Err Stop.ReadFault → S.faults input.new ≡ S.faults input.old }

@@ -2,6 +2,7 @@ ghost use Rattle.std.specs.Prelude.{◌≡◌, ◌≢◌, ◌⊎◌, IfErr, IfOk
 ghost use Rattle.std.specs.Io.KnownBytes.{Appends, IsAtEnd};
 ghost use Rattle.dup_io.specs.Causes.{Rose};
 ghost use Rattle.dup_main.specs.Headline.{EditionsAreRendered, FoundPagesAreRendered, SettledEditionsAreWhole};
+ghost use Rattle.dup_main.specs.Reach.{ReadsNoFurther};
 ghost use Rattle.dup_main.specs.Stops.{StopsAt, stop_status, stop_text, writes};
 ghost use Rattle.dup_main.specs.Tasks.{task_of};
 ghost use Rattle.dup_main.specs.Transcript.{WritesTranscript, usage};
@@ -78,6 +79,7 @@ fn perform<S: Source, K: Sink>(
 ) -> Result<(), Stop>
     ensures written { OnOk result (WritesTranscript task (S.left input.old) (K.written out.old) (K.written out.new) 0) }
     ensures at_end { OnOk result ((task ≡ Task.Play) ⊎ (task ≡ Task.Render) → IsAtEnd (S.left input.new)) }
+    ensures no_further { OnOk result (task ≡ Task.Check → ReadsNoFurther (S.left input.old) (S.left input.new)) }
     ensures stopped { IfErr result (λ stop. StopsAt task stop (S.left input.old) (K.written out.old) (K.written out.new)) }
     ensures read_fault { IsErrOf result Stop.ReadFault → Rose (S.faults input.old) (S.faults input.new) }
     ensures no_read_fault { result ≢ Err Stop.ReadFault → S.faults input.new ≡ S.faults input.old }
@@ -93,7 +95,7 @@ fn perform<S: Source, K: Sink>(
 
 /// Does what the words say, and gives the status. The words are those after the program's own name.
 ///
-/// - 0: `play` read its input to the end and wrote its transcript; `check` read a good site text, up to `---` or the end, and wrote its canonical text; `render` read its input to the end and wrote each page of the last content.
+/// - 0: `play` read its input to the end and wrote its transcript; `check` read a good site text, up to `---` or the end and at most 4,096 bytes further, and wrote its canonical text; `render` read its input to the end and wrote each page of the last content.
 /// - 2: the words are no command line that is known; nothing was read, and the usage line was written.
 /// - 3: the source failed; 4: the sink failed, whatever else was found.
 /// - 5: the site text was read whole, and is no good site, or for `play` none of the form that can be played: the line says why.
@@ -115,6 +117,7 @@ pub fn desk_main<R: Threads + Sync, S: Source, K: Sink>(
     // What is written is the task's transcript of the bytes read, and the status is its own.
     ensures whole { result ≡ 0 → IsSomeAnd (task_of words.now) (λ task. WritesTranscript task (S.left input.old) (K.written out.old) (K.written out.new) 0) }
     ensures at_end { result ≡ 0 → (task_of words.now ≡ Some Task.Play) ⊎ (task_of words.now ≡ Some Task.Render) → IsAtEnd (S.left input.new) }
+    ensures no_further { result ≡ 0 → task_of words.now ≡ Some Task.Check → ReadsNoFurther (S.left input.old) (S.left input.new) }
     ensures bad_site { result ≡ 5 → IsSomeAnd (task_of words.now) (λ task. WritesTranscript task (S.left input.old) (K.written out.old) (K.written out.new) 5) }
     ensures too_long { result ≡ 7 → IsSomeAnd (task_of words.now) (λ task. WritesTranscript task (S.left input.old) (K.written out.old) (K.written out.new) 7) }
     // A fault is answered only where it happened, and none is passed over.

@@ -1,5 +1,5 @@
-//! What the contents of a site are, what their pages show, how pages are published and served, and
-//! the laws of all this.
+//! What the contents of a site are, what their pages show, how pages are published and served, what
+//! is read of an input and written for it, and the laws of all this.
 //!
 //! The definitions stand in `specs`. A law is a function without a body: its contract is the law.
 #![tactic(auto)]

@@ -1,5 +1,6 @@
-use Rattle.std.proofs.Common.{refl}
+use Rattle.std.proofs.Common.{refl, rules}
 use Rattle.dup_model.specs.declared.task.Task.TheVariants.{Check}
+use Rattle.dup_main.proofs.Reached.{no_further}
 use Rattle.dup_main.proofs.WholeRuns.{reads_from, stopped_by_site}
 use Rattle.dup_main.proofs.check.check_site.Goals as goal
 
@@ -8,3 +9,8 @@ returns-in_err-site-clause-stopped g c =
     stopped_by_site Check _ c.in_err-site.field-0.0 _ _ _ _ _ c.in_ok-read.read.text.items c.deref.result.now c.from_residual-in_err-site.ensures.1
     (reads_from _ _ _ _ c.new-lines.ensures.ahead c.new-lines.ensures.first c.new-lines.ensures.taken)
     c.in_ok-read.ensures.text c.deref.ensures.value c.in_err-site.ensures.stopped refl
+
+pub returns-clause-no_further : goal.returns-clause-no_further
+returns-clause-no_further g c =
+    no_further g.S.Source.left c.in_ok-read.read.has_script _ _ _ c.read_site_text.new.lines c.in_ok-read.read.text.items
+    (reads_from _ _ _ _ c.new-lines.ensures.ahead c.new-lines.ensures.first c.new-lines.ensures.taken) (search rules) c.in_ok-read.ensures.text c.in_ok-read.ensures.at_end
