@@ -25,7 +25,7 @@ use Rattle.dup_model.specs.Versions.{content, version}
 use Rattle.dup_model.specs.declared.command.Command.TheVariants as command
 use Rattle.dup_main.specs.declared.session.Session.{Session as Kept}
 use Rattle.dup_main.specs.Kept.{Acts, IsMade, IsReady, Keeps}
-use Rattle.dup_model.specs.Script.{commit_text}
+use Rattle.dup_model.specs.Sessions.{commit_text}
 use Rattle.dup_names.specs.Lines.{line}
 
 edited_is_of : (site : Parts) (c : Content) (e : Edit) → IsOf site c → IsOf site (edited c e)

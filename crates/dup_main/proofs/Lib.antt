@@ -5,16 +5,11 @@ pub mod NumberLemmas
 pub mod PageJobs
 pub mod Published
 pub mod RenderSoFar
-pub mod Renders
-pub mod Rising
-pub mod RowCountLemmas
-pub mod RowPageLemmas
 pub mod RowReads
-pub mod SameWords
 pub mod ScriptSoFar
 pub mod Settling
 pub mod SiteSoFar
-pub mod Whole
+pub mod Puts
 pub mod WholeRuns
 pub mod WordLemmas
 pub mod Reached

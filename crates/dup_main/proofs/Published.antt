@@ -1,23 +1,19 @@
 -- The pages of rows, published one after another.
-use Rattle.std.proofs.Common.{◌≡◌, ℕ, suc, ◌+◌, ◌<◌, ◌≤◌, refl, sym, ap, ◌∙◌, List, ◌∷◌, map, drop, length, get_or, add-one}
+use Rattle.std.proofs.Common.{◌≡◌, ℕ, suc, ◌+◌, ◌<◌, ◌≤◌, refl, sym, ap, ◌∙◌, ◌∷◌, drop, length, get_or, add-one}
 use Rattle.std.proofs.Math.Seq.{drop-cons}
 use Rattle.std.proofs.lemmas.List.{drop_all}
-use Rattle.dup_names.specs.Words.{Word, Path}
+use Rattle.dup_names.specs.Words.{Word}
 use Rattle.dup_names.specs.declared.object.Obj.{Obj}
-use Rattle.dup_names.specs.declared.value.Look.{Look}
 use Rattle.dup_template.specs.declared.site.Parts.{Parts}
 use Rattle.dup_model.specs.Content.{Content, Table, Entry}
-use Rattle.dup_main.specs.Kept.{plain_look}
+use Rattle.dup_model.specs.RowPages.{plain_look, row_object, row_page, row_path}
 use Rattle.dup_model.specs.Show.{show}
-use Rattle.dup_main.specs.RowPages.{row_object, row_page, row_path}
-use Rattle.dup_model.specs.Script.{Published, with_pages, with_page}
+use Rattle.dup_model.proofs.SettledPages.{pages_from}
+use Rattle.dup_model.specs.Sessions.{Published, with_pages, with_page}
 
 pub page_is : (site : Parts) (c : Content) (key path bytes : Word) (o : Obj) → path ≡ row_path site key → o ≡ row_object key → bytes ≡ show c o
     → (path, plain_look o bytes) ≡ row_page site c key
 page_is site c key path bytes o at is shows = rw (at, shows, is) refl
-
-abbrev pub pages_from : Parts → Content → Table → List (Path × Look)
-pages_from site c rows = map (row_page site c) (map (λ e. e.0) rows)
 
 pub one_more : (site : Parts) (c : Content) (v i : ℕ) (rows : Table) (e : Entry) (q all : Published) → i < length rows → e ≡ get_or rows i e
     → with_pages v (pages_from site c (drop i rows)) q ≡ all → with_pages v (pages_from site c (drop (i + 1) rows)) (with_page v q (row_page site c e.0)) ≡ all

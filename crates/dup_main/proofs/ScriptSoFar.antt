@@ -11,9 +11,9 @@ use Rattle.dup_model.specs.Commands.{Command}
 use Rattle.dup_main.specs.declared.session.Session.{Session as Kept}
 use Rattle.dup_main.specs.Commands.{command_of, message_command}
 use Rattle.dup_main.specs.Kept.{Keeps}
-use Rattle.dup_model.specs.Script.{Session, first_session, after_command, play_answer}
+use Rattle.dup_model.specs.Sessions.{Writes, Session, first_session, after_command, play_answer}
 use Rattle.dup_main.specs.Stops.{WritesScript}
-use Rattle.dup_model.specs.Transcript.{Writes, ending}
+use Rattle.dup_model.specs.Transcript.{ending}
 use Rattle.dup_main.proofs.CutScripts.{Reaches}
 
 -- of a script, some lines were answered by done, and the rest goes on from a session

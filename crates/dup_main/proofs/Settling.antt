@@ -24,11 +24,12 @@ use Rattle.dup_main.specs.declared.edition.Edition.{Edition as KeptEdition}
 use Rattle.dup_main.specs.declared.edition.Rendered.{Rendered}
 use Rattle.dup_main.specs.declared.session.Session.{Session as Kept}
 use Rattle.dup_main.specs.Kept.{Acts, IsReady, KeepsPages, page_of}
-use Rattle.dup_main.specs.RowCounts.{CountsRows, IsSettledOf, renewed_count}
-use Rattle.dup_main.specs.RowPages.{HasRowPages, row_page}
-use Rattle.dup_model.specs.Script.{Published, with_pages, settled_edition, whole_site, settled_text, found_text, has_node}
-use Rattle.dup_main.proofs.RowCountLemmas.{rows_counted}
-use Rattle.dup_main.proofs.RowPageLemmas.{row_pages}
+use Rattle.dup_model.specs.RowCounts.{CountsRows, IsSettledOf, renewed_count}
+use Rattle.dup_model.specs.RowPages.{HasRowPages, row_page}
+use Rattle.dup_model.specs.Sessions.{Published, with_pages, settled_edition, whole_site, has_node}
+use Rattle.dup_model.specs.Texts.{found_text, settled_text}
+use Rattle.dup_model.proofs.RowCountLemmas.{rows_counted}
+use Rattle.dup_model.proofs.RowPageLemmas.{row_pages}
 
 pub found_acts : (r : Kept) (node pass : ℕ) (path : Path) (page : Rendered) (text : Word) → list_any (nat_eq node) r.nodes.items ≡ true → pass ≤ r.edition.number
     → tree.get text_cmp r.edition.pages path ≡ Some page → text ≡ found_text r.edition.number (page_of path page) → Acts r r 0 (command.Get node pass path) text

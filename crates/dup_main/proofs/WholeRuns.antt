@@ -11,14 +11,17 @@ use Rattle.dup_template.specs.declared.site.Parts.{Parts}
 use Rattle.dup_main.specs.declared.stop.Stop.{Stop}
 use Rattle.dup_main.specs.declared.stop.Stop.TheVariants as stops
 use Rattle.dup_main.specs.Commands.{message_command}
-use Rattle.dup_model.specs.BadSites.{bad_site_text, not_built_site}
-use Rattle.dup_model.specs.Script.{first_session}
+use Rattle.dup_model.specs.BadSites.{bad_site_text, not_built_site, or_cause}
+use Rattle.dup_model.specs.Sessions.{Writes, first_session}
 use Rattle.dup_main.specs.Stops.{IsSiteText, ReadsSite, CountsSite, WritesScript, StopsInScript, StopsAt, BarsSite, stop_text}
-use Rattle.dup_model.specs.Transcript.{Writes, RendersLines, Does, DoesSite, DoesRead, IsTranscript, ending, site_for, site_ok}
+use Rattle.dup_model.specs.Transcript.{commands, too_long, RendersLines, Does, DoesSite, DoesRead, IsTranscript, ending, site_for, site_ok}
 use Rattle.dup_main.specs.Transcript.{WritesTranscript, grammars}
 use Rattle.dup_model.specs.Inputs.{site_text, site_lines, script}
 use Rattle.dup_model.specs.declared.task.Task.{Task}
 use Rattle.dup_model.specs.declared.task.Task.TheVariants as tasks
+use Rattle.dup_model.proofs.MachineScripts.{sessions_are_the_machines}
+use Rattle.dup_model.proofs.Transcripts.{played_form}
+use Rattle.dup_main.proofs.Puts.{lines_put}
 
 -- what is read of an input from its first byte
 abbrev pub Reads : Option Word → Option Reading → Type 0
@@ -79,22 +82,30 @@ without_script true r t u text is h = absurd (cc)
 without_script false r t u text is h = h
 
 -- what each task says of a good site, and what it may write for the lines behind it
-pub does_play : (site : Parts) (all : Reading) (status : ℕ) (more : Word) → status ≡ ending all → Writes message_command site first_session (site_lines all) (script all) more
-    → Does grammars tasks.Play site all status (site_ok ++ more)
-does_play site all status more ends w = (ends, (more, refl, w))
+pub does_play : (site : Parts) (all : Reading) (status : ℕ) (more text : Word) → site_for grammars tasks.Play text ≡ Ok site → status ≡ ending all
+    → Writes message_command site first_session (site_lines all) (script all) more → Does grammars tasks.Play site all status (site_ok ++ more)
+does_play site all status more text is ends w = (
+  ends,
+  (
+    more,
+    refl,
+    (sessions_are_the_machines site (site_lines all) (commands message_command (script all)) (too_long (script all)) more
+        (played_form (or_cause (grammars.site text)) site is) (lines_put (script all))).0 w,
+  ),
+)
 
-pub does_render : (site : Parts) (all : Reading) (status : ℕ) (more : Word) → status ≡ ending all → RendersLines message_command site (site_lines all) (script all) more
+pub does_render : (site : Parts) (all : Reading) (status : ℕ) (more text : Word) → site_for grammars tasks.Render text ≡ Ok site → status ≡ ending all → RendersLines message_command site (site_lines all) (script all) more
     → Does grammars tasks.Render site all status ([] ++ more)
-does_render site all status more ends w = (ends, w)
+does_render site all status more text is ends w = (ends, w)
 
 -- a task that writes its first words on a good site, and then what it may for the lines behind the site text
 module _ (task : Task) (first : Word) (may : Parts → ℕ → Reading → Word → Type 0)
-    (does : (site : Parts) (all : Reading) (status : ℕ) (more : Word) → status ≡ ending all → may site (site_lines all) (script all) more → Does grammars task site all status (first ++ more)) where
+    (does : (site : Parts) (all : Reading) (status : ℕ) (more text : Word) → site_for grammars task text ≡ Ok site → status ≡ ending all → may site (site_lines all) (script all) more → Does grammars task site all status (first ++ more)) where
   good : (all rest : Reading) (text : Word) (site : Parts) (n status : ℕ) (more : Word) → IsSiteText all rest text → site_lines all ≡ n → site_for grammars task text ≡ Ok site
       → status ≡ ending rest → may site n rest more → IsTranscript grammars task all status (first ++ more)
   good all rest text site n status more t count is ends w =
       let inside : Does grammars task site all status (first ++ more) =
-      does site all status more (ends ∙ sym t.ends) (subst (λ (k : ℕ). may site k (script all) more) (sym count) (subst (λ (r : Reading). may site n r more) (sym t.behind) w)) in
+      does site all status more text is (ends ∙ sym t.ends) (subst (λ (k : ℕ). may site k (script all) more) (sym count) (subst (λ (r : Reading). may site n r more) (sym t.behind) w)) in
       of_site task all rest text (Ok site) status (first ++ more) t is inside
 
   -- the site is good, and all lines behind it were answered

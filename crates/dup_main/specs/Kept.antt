@@ -1,27 +1,22 @@
 -- What the program keeps of a session.
-use Rattle.std.specs.Prelude.{◌≡◌, ℕ, ◌≤◌, true, [], ◌∷◌, Option, Some, None, length, Bool, false, ◌&&◌, bytes_eq}
+use Rattle.std.specs.Prelude.{◌≡◌, ℕ, ◌≤◌, true, Option, Some, None, length, Bool, false, ◌&&◌, bytes_eq}
 use Rattle.dup_model.specs.Touched.{same_obj}
 use Rattle.std.specs.Option.{option_map}
 use Rattle.std.specs.FinMap as fin
 use Rattle.std.specs.BTreeMap as tree
 use Rattle.dup_names.specs.Order.{text_cmp}
 use Rattle.dup_names.specs.Words.{Word, Path}
-use Rattle.dup_names.specs.declared.object.Obj.{Obj}
-use Rattle.dup_names.specs.declared.value.Look.{Look}
 use Rattle.dup_model.specs.Versions.{content, target_content}
 use Rattle.dup_model.specs.Editions.{Page}
 use Rattle.dup_model.specs.Content.{IsOf, table}
 use Rattle.dup_model.specs.FirstForm.{is_first_form}
-use Rattle.dup_main.specs.RowCounts.{IsSimple}
-use Rattle.dup_model.specs.Script.{Session, Published, after_command, play_answer}
+use Rattle.dup_model.specs.RowCounts.{IsSimple}
+use Rattle.dup_model.specs.RowPages.{plain_look}
+use Rattle.dup_model.specs.Sessions.{Session, Published, after_command, play_answer}
 use Rattle.dup_model.specs.Commands.{Command}
 use Rattle.dup_main.specs.declared.edition.Edition.{Edition as KeptEdition}
 use Rattle.dup_main.specs.declared.edition.Rendered.{Rendered}
 use Rattle.dup_main.specs.declared.session.Session.{Session as Kept}
-
--- the look of a page that embeds nothing and has no links
-abbrev pub plain_look : Obj → Word → Look
-plain_look obj bytes = record { obj = obj; bytes = bytes; uses = (obj, bytes) ∷ []; links = [] }
 
 abbrev pub page_of : Path → Rendered → Page
 page_of path r = record { path = path; version = r.version; look = plain_look r.obj r.bytes.items }

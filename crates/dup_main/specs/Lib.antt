@@ -6,6 +6,3 @@ pub mod Stops
 pub mod Taken
 pub mod Tasks
 pub mod Transcript
-pub mod RowPages
-pub mod RowCounts
-pub mod Headline

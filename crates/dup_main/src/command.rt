@@ -6,12 +6,12 @@ ghost use Rattle.dup_names.specs.LineWords.{is_space};
 ghost use Rattle.dup_template.specs.Good.{behind};
 ghost use Rattle.dup_names.specs.Words.{same};
 ghost use Rattle.dup_main.specs.Commands.{command_of, commit_command, message_command, seen};
-ghost use Rattle.dup_model.specs.Commands.{HasOneChange, by_message, by_start, by_words, four_words, get_command, if_more, is_mode, is_one_put, is_put, message_of, node_command, of_commit, one_word};
+ghost use Rattle.dup_model.specs.Commands.{HasOneChange, by_message, by_start, by_words, four_words, get_command, if_more, is_one_put, is_put, message_of, mode_of, node_command, of_commit, one_word};
 ghost use Rattle.dup_model.specs.Numbers.{number_of};
 
 use crate::number::read_number;
 use dup_feed::{FeedRefusal, read_commit};
-use dup_model::{Command, Edit};
+use dup_model::{Command, Edit, Mode};
 use dup_names::{NoMemory, Path};
 use dup_records::{Change, Commit};
 use dup_site::{trimmed, words_of};
@@ -23,18 +23,28 @@ fn is_word(word: &[u8], wanted: &[u8]) -> bool
     word == wanted
 }
 
-fn is_mode(word: &[u8]) -> bool
-    ensures { result ≡ is_mode word.now }
+fn read_mode(word: &[u8]) -> Option<Mode>
+    ensures { result ≡ mode_of word.now }
 {
-    is_word(word, b"update") || is_word(word, b"invalidate")
+    if is_word(word, b"update") {
+        Some(Mode::Update)
+    } else if is_word(word, b"invalidate") {
+        Some(Mode::Invalidate)
+    } else {
+        None
+    }
 }
 
-fn node_command(node: &[u8], capacity: &[u8], mode: &[u8]) -> Command<Commit>
-    ensures command { result ≡ node_command (number_of node.now) (number_of capacity.now) mode.now }
+fn node_command(number: &[u8], capacity: &[u8], mode: &[u8]) -> Command<Commit>
+    ensures command { result ≡ node_command (number_of number.now) (number_of capacity.now) (mode_of mode.now) }
     ensures one { HasOneChange result }
 {
-    match (read_number(node), read_number(capacity)) {
-        (Some(node @ 1..=16), Some(1..=65_536)) if is_mode(mode) => Command::Node(node as u16),
+    match (read_number(number), read_number(capacity), read_mode(mode)) {
+        (Some(number @ 1..=16), Some(capacity @ 1..=65_536), Some(mode)) => Command::Node {
+            number: number as u16,
+            capacity: capacity as u32,
+            mode,
+        },
         _ => Command::NotBuilt,
     }
 }

@@ -1,22 +1,22 @@
 ghost use Rattle.std.specs.Prelude.{◌≡◌, ◌≢◌, ◌⊎◌, IfErr, IfOk, IsErrOf, IsSome, IsSomeAnd, None, OnOk, Some, Err, string_bytes, true};
 ghost use Rattle.std.specs.Io.KnownBytes.{Appends, IsAtEnd};
 ghost use Rattle.dup_io.specs.Causes.{Rose};
-ghost use Rattle.dup_main.specs.Headline.{EditionsAreRendered, FoundPagesAreRendered, SettledEditionsAreWhole};
 ghost use Rattle.dup_main.specs.Reach.{ReadsNoFurther};
 ghost use Rattle.dup_main.specs.Stops.{StopsAt, stop_status, stop_text, writes};
 ghost use Rattle.dup_main.specs.Tasks.{task_of};
 ghost use Rattle.dup_main.specs.Transcript.{WritesTranscript, usage};
+ghost use Rattle.dup_model.specs.Headline.{Headline};
+ghost use Rattle.dup_model.specs.MachinePlays.{SettlesLeaveNothing};
 ghost use Rattle.dup_model.specs.Transcript.{too_long_line};
 
 use crate::bad_site::bad_site_text;
 use crate::check::check_site;
-use crate::laws::headline;
 use crate::play::play;
 use crate::render_site::render_site;
 use crate::stop::Stop;
 use crate::task::task_of;
 use dup_io::{Sink, Source, put_all};
-use dup_model::Task;
+use dup_model::{Task, headline, plays_law};
 use std::alloc::{AllocError, Global};
 use std::marker::Sync;
 use std::thread::Threads;
@@ -126,13 +126,13 @@ pub fn desk_main<R: Threads + Sync, S: Source, K: Sink>(
     ensures no_read_fault { result ≢ 3 → result ≢ 4 → S.faults input.new ≡ S.faults input.old }
     ensures no_write_fault { result ≢ 4 → K.faults out.new ≡ K.faults out.old }
     ensures memory { result ≡ 6 → IsSome (task_of words.now) }
-    // Over every script: each page of an edition, and each page that is found, is rendered over one version.
-    ensures editions { EditionsAreRendered }
-    ensures found { FoundPagesAreRendered }
-    ensures settled { SettledEditionsAreWhole }
+    // The headline: over every list of events of the machine, whose replies a transcript of `play` tells. Once settled, nothing is pending.
+    ensures headline { Headline }
+    ensures settled { SettlesLeaveNothing }
     ensures others { (result ≡ 0) ⊎ (result ≡ 2) ⊎ (result ≡ 3) ⊎ (result ≡ 4) ⊎ (result ≡ 5) ⊎ (result ≡ 6) ⊎ (result ≡ 7) }
 {
     headline();
+    plays_law();
     let Some(task) = task_of(words) else {
         return end(out, 2, USAGE);
     };

@@ -9,7 +9,6 @@ mod counts;
 mod desk;
 mod edition;
 mod form;
-mod laws;
 mod number;
 mod play;
 mod publish;
@@ -23,4 +22,3 @@ mod task;
 mod texts;
 
 pub use desk::desk_main;
-pub use laws::{headline, row_counts_law, row_pages_law};

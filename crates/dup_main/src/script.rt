@@ -5,8 +5,7 @@ ghost use Rattle.dup_io.specs.Lines.{to_read, source_of, reference_of, number_of
 ghost use Rattle.dup_model.specs.FirstForm.{is_first_form};
 ghost use Rattle.dup_main.specs.Commands.{message_command};
 ghost use Rattle.dup_main.specs.Stops.{StopsInScript, WritesScript};
-ghost use Rattle.dup_model.specs.Transcript.{Writes};
-ghost use Rattle.dup_model.specs.Script.{first_session};
+ghost use Rattle.dup_model.specs.Sessions.{Writes, first_session};
 
 use crate::command::read_command;
 use crate::session::Session;

@@ -9,7 +9,7 @@ use crate::texts::{
     absent_text, ahead_text, committed_text, found_text, no_node_text, node_text, not_built,
     refusal_text, settled_text,
 };
-use dup_model::Command;
+use dup_model::{Command, Mode};
 use dup_names::{NoMemory, Path};
 use dup_records::{Commit, CommitRefusal, Content, apply};
 use dup_template::Site;
@@ -44,7 +44,7 @@ fn has_node(nodes: &[u16], node: u16) -> bool
 impl Session {
     ghost use Rattle.dup_main.specs.Kept.{Acts, IsReady, Keeps};
     ghost use Rattle.dup_model.specs.Commands.{HasOneChange};
-    ghost use Rattle.dup_model.specs.Script.{Session as Sessions, after_command, play_answer, first_session};
+    ghost use Rattle.dup_model.specs.Sessions.{Session as Sessions, after_command, play_answer, first_session};
     ghost use Rattle.dup_model.specs.declared.command.Command.TheVariants as command;
 
     /// The session before any command.
@@ -121,11 +121,18 @@ impl Session {
         Ok(text.into_bytes())
     }
 
-    fn add_node(&mut self, alloc: Global, node: u16) -> Result<Vec<u8>, NoMemory>
+    /// Gives a node its number. Nothing is kept in its cache yet, so its capacity and mode don't count.
+    fn add_node(
+        &mut self,
+        alloc: Global,
+        node: u16,
+        _capacity: u32,
+        _mode: Mode,
+    ) -> Result<Vec<u8>, NoMemory>
         requires ready { IsReady self.old }
         ensures site { self.new.site.value ≡ self.old.site.value }
         ensures ready { IsReady self.new }
-        ensures acts { IfOk result (λ text. Acts self.old self.new 0 (command.Node node) text.items) }
+        ensures acts { IfOk result (λ text. Acts self.old self.new 0 (command.Node node _capacity _mode) text.items) }
         ensures version { self.new.version ≡ self.old.version }
         ensures number { self.new.edition.number ≡ self.old.edition.number }
     {
@@ -174,7 +181,11 @@ impl Session {
             Command::Blank => Ok(Vec::new(alloc)),
             Command::Commit(commit) => self.commit(alloc, commit),
             Command::Settle => self.settle(alloc),
-            Command::Node(node) => self.add_node(alloc, node),
+            Command::Node {
+                number: node,
+                capacity,
+                mode,
+            } => self.add_node(alloc, node, capacity, mode),
             Command::Get { node, pass, path } => self.get(alloc, node, pass, &path),
             Command::NotBuilt => Ok(not_built(alloc, number)?.into_bytes()),
         }

@@ -24,11 +24,11 @@ use Rattle.dup_model.specs.Pages.{Target}
 use Rattle.dup_model.specs.Reaches.{IsLeast}
 use Rattle.dup_model.specs.Bundles.{reached, paths_of, changed_paths, bundle_from, bundle}
 
-firsts : (ks : List Path) → map (λ x. x.0) (map (λ p. let pair : Path × ℕ = (p, zero) in pair) ks) ≡ ks
+pub firsts : (ks : List Path) → map (λ x. x.0) (map (λ p. let pair : Path × ℕ = (p, zero) in pair) ks) ≡ ks
 firsts [] = refl
 firsts (k ∷ ks) = ap (λ rest. k ∷ rest) (firsts ks)
 
-has_append : (xs ys : List Path) (q : Path) → has (xs ++ ys) q ≡ (has xs q || has ys q)
+pub has_append : (xs ys : List Path) (q : Path) → has (xs ++ ys) q ≡ (has xs q || has ys q)
 has_append [] ys q = refl
 has_append (x ∷ xs) ys q = rw (has_append xs ys q) (or_assoc (eq_by_cmp text_cmp q x) (has xs q) (has ys q))
   where

@@ -11,14 +11,15 @@ use Rattle.std.proofs.lemmas.List.Sums.{fold-append}
 use Rattle.std.proofs.Math.Seq.{take-length}
 use Rattle.std.specs.Cmp.Lexicographic.{nat_list_cmp_total}
 use Rattle.std.specs.FinMap as fin
-use Rattle.dup_model.specs.Caches.Mode.{Invalidate, Update}
+use Rattle.dup_model.specs.declared.mode.Mode.TheVariants.{Invalidate, Update}
 use Rattle.dup_model.specs.Answers.How.{Hit}
 use Rattle.dup_model.specs.Answers.Reply.{Found, Absent, Ahead}
 use Rattle.dup_model.proofs.Reached.{tie_same}
 use Rattle.dup_names.specs.Words.{Path}
 use Rattle.dup_model.specs.Editions.{Page, Edition, Bundle, edition, absorb, put_page, drop_path}
 use Rattle.dup_names.specs.Order.{text_cmp}
-use Rattle.dup_model.specs.Caches.{Mode, Cache, names, caught_up, catch_up, entry, with_first}
+use Rattle.dup_model.specs.Caches.{Cache, names, caught_up, catch_up, entry, with_first}
+use Rattle.dup_model.specs.declared.mode.Mode.{Mode}
 use Rattle.dup_model.specs.Serving.{HoldsPagesOf, IsTrueReply, GoodLogsPlacePages, CatchingUpHolds, AnswersAreTrue, EvictingHolds}
 use Rattle.dup_model.specs.Answers.{Reply, Answer, missed, after_refresh, refreshed, answer_at, answer}
 

@@ -8,7 +8,7 @@ use Rattle.std.specs.Cmp.Lexicographic.{nat_list_cmp_total}
 use Rattle.dup_names.specs.Order.{text_cmp}
 use Rattle.dup_names.specs.Words.{Path}
 use Rattle.dup_model.specs.Editions.{Edition, absorb, edition}
-use Rattle.dup_model.specs.Caches.{Update}
+use Rattle.dup_model.specs.declared.mode.Mode.TheVariants.{Update}
 use Rattle.dup_model.specs.CatchUpRows.{old_one, two, new_one, put_of, log_of, cache_of, CatchUpRow}
 
 twice : {A : Type 0} (b : Bool) (x y : A) → cond b x (cond b x y) ≡ cond b x y

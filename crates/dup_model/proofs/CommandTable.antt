@@ -1,19 +1,20 @@
 -- What each form of line commands.
-use Rattle.std.proofs.Common.{◌≡◌, inl, inr, ℕ, ◌<◌, ◌^◌, refl, ap, ◌∙◌, arith, length, append-nil}
-use Rattle.std.specs.Prelude.{true, [], ◌∷◌, ◌++◌, codes}
+use Rattle.std.proofs.Common.{◌≡◌, ℕ, ◌<◌, ◌^◌, refl, ap, ◌∙◌, arith, length, append-nil}
+use Rattle.std.specs.Prelude.{Some, true, [], ◌∷◌, ◌++◌, codes}
 use Rattle.std.specs.Fmt.{decimal}
 use Rattle.std.specs.List.{list_all}
-use Rattle.std.proofs.lemmas.Bool.{and_parts, and_from, or_cases, eqb-true}
+use Rattle.std.proofs.lemmas.Bool.{and_parts, and_from, eqb-true}
 use Rattle.std.proofs.lemmas.Bool.Decides.{nat_tests}
 use Rattle.std.proofs.lemmas.Fmt.{decimal_nonempty}
-use Rattle.std.proofs.lemmas.Slice.Eq.{bytes_eq-Decides}
 use Rattle.dup_names.proofs.LineWords.{is_word_byte, is_word, bytes-of, split-word, words-law, path-word}
 use Rattle.dup_names.specs.Grammar.{is_digit, is_path}
 use Rattle.dup_names.specs.LineWords.{line_words, is_space, spaced}
-use Rattle.dup_names.specs.Words.{Word, same}
-use Rattle.dup_model.specs.Commands.{Command, is_capacity, is_mode, is_node, line_command, by_words}
-use Rattle.dup_model.specs.CommandTable.{EachIsRead}
+use Rattle.dup_names.specs.Words.{Word}
+use Rattle.dup_model.specs.Commands.{Command, is_capacity, is_node, mode_of, line_command, by_words}
+use Rattle.dup_model.specs.CommandTable.{EachIsRead, mode_word}
 use Rattle.dup_model.specs.declared.command.Command.TheVariants.{Settle, Node, Get, NotBuilt}
+use Rattle.dup_model.specs.declared.mode.Mode.{Mode}
+use Rattle.dup_model.specs.declared.mode.Mode.TheVariants.{Invalidate, Update}
 use Rattle.dup_model.proofs.Numbers.{read_decimal, decimal_digits}
 
 -- a word that numbers, modes or paths follow
@@ -52,12 +53,13 @@ filled_word (b ∷ w) some h = h
 decimal_word : (n : ℕ) → n < 2 ^ 64 → is_word (decimal n) ≡ true
 decimal_word n small = filled_word (decimal n) (decimal_nonempty n small) (digit_bytes (decimal n) (decimal_digits n))
 
-same_word : (w v : Word) → is_word v ≡ true → same w v ≡ true → is_word w ≡ true
-same_word w v h is = ap is_word ((bytes_eq-Decides w v).0 is) ∙ h
+mode_is_word : (mode : Mode) → is_word (mode_word mode) ≡ true
+mode_is_word Update = refl
+mode_is_word Invalidate = refl
 
-mode_word : (w : Word) → is_mode w ≡ true → is_word w ≡ true
-mode_word w h = elim (or_cases (same w (codes "update")) (same w (codes "invalidate")) h)
-    [ inl is ↦ same_word w (codes "update") refl is | inr is ↦ same_word w (codes "invalidate") refl is ]
+mode_read : (mode : Mode) → mode_of (mode_word mode) ≡ Some mode
+mode_read Update = refl
+mode_read Invalidate = refl
 
 node_small : (n : ℕ) → is_node n ≡ true → n < 2 ^ 64
 node_small n h = grind (arith, nat_tests)
@@ -75,13 +77,13 @@ module _ (feed : Word → Command) where
   settle_read : (spaces : Word) → list_all is_space spaces ≡ true → line_command feed (codes "settle" ++ spaces) ≡ Settle
   settle_read spaces h = ap by_words (before_spaces (codes "settle") spaces refl h)
 
-  node_read : (number capacity : ℕ) (mode : Word) → is_node number ≡ true → is_capacity capacity ≡ true → is_mode mode ≡ true →
-      line_command feed (spaced (codes "node" ∷ decimal number ∷ decimal capacity ∷ mode ∷ [])) ≡ Node number
-  node_read number capacity mode n c m =
+  node_read : (number capacity : ℕ) (mode : Mode) → is_node number ≡ true → is_capacity capacity ≡ true →
+      line_command feed (spaced (codes "node" ∷ decimal number ∷ decimal capacity ∷ mode_word mode ∷ [])) ≡ Node number capacity mode
+  node_read number capacity mode n c =
       let small = node_small number n in
       let room = capacity_small capacity c in
-      ap by_words (words_of_four (codes "node") (decimal number) (decimal capacity) mode refl (decimal_word number small) (decimal_word capacity room) (mode_word mode m))
-      ∙ rw (read_decimal number small, read_decimal capacity room, n, c, m) refl
+      ap by_words (words_of_four (codes "node") (decimal number) (decimal capacity) (mode_word mode) refl (decimal_word number small) (decimal_word capacity room) (mode_is_word mode))
+      ∙ rw (read_decimal number small, read_decimal capacity room, mode_read mode, n, c) refl
 
   get_read : (number pass : ℕ) (path : Word) → is_node number ≡ true → pass < 2 ^ 64 → is_path path ≡ true →
       line_command feed (spaced (codes "get" ∷ decimal number ∷ decimal pass ∷ path ∷ [])) ≡ Get number pass path

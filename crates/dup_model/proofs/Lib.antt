@@ -53,3 +53,14 @@ pub mod Numbers
 pub mod Transcripts
 pub mod WrittenLines
 pub mod ScriptRowsComputed
+pub mod Reports
+pub mod MachineAnswers
+pub mod Rising
+pub mod SameWords
+pub mod RowPageLemmas
+pub mod RowCountLemmas
+pub mod SettledPages
+pub mod SinglePages
+pub mod MachineBundles
+pub mod MachineSteps
+pub mod MachineScripts

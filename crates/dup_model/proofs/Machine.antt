@@ -22,7 +22,8 @@ use Rattle.dup_model.specs.Needs.{changed, same_look}
 use Rattle.dup_model.specs.Editions.{Page, Bundle, edition, history, bundle_of, IsConsistent, looks, target_looks, has}
 use Rattle.dup_model.specs.Bundles.{bundle}
 use Rattle.dup_model.specs.Logs.{IsNext, IsGoodLog}
-use Rattle.dup_model.specs.Caches.{Mode, Cache, catch_up}
+use Rattle.dup_model.specs.Caches.{Cache, catch_up}
+use Rattle.dup_model.specs.declared.mode.Mode.{Mode}
 use Rattle.dup_model.specs.Answers.{Reply, answer}
 use Rattle.dup_model.specs.World.{World, Told, Event, answered}
 use Rattle.dup_model.specs.World.Told.{NothingChanged, NodeMade, NodeTaken, NoNode}

@@ -35,7 +35,7 @@ is_last : (n : ℕ) → not (is_of n (Some n)) ≡ false
 is_last n = ap not ((Decides-eqb n n).1 refl)
 
 module _ (site : Parts) (w : World) where
-  last_target : w.target ≡ Some (length w.commits) → target_of site w w.target ≡ target (content site w.commits)
+  pub last_target : w.target ≡ Some (length w.commits) → target_of site w w.target ≡ target (content site w.commits)
   last_target made = ap (target_of site w) made ∙ ap (λ l. target (content site l)) (take-length w.commits)
 
   pending_told : (is_pending site w ≡ false) ↔ NothingPending site w

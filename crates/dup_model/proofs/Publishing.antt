@@ -34,7 +34,7 @@ uses_itself : (us : List (Obj × Word)) → pointwise same_use us us ≡ true
 uses_itself [] = refl
 uses_itself (u ∷ us) = and_from _ _ (and_from _ _ (obj_itself u.0) ((bytes_eq-Decides u.1 u.1).1 refl)) (uses_itself us)
 
-look_itself : (l : Look) → same_look l l ≡ true
+pub look_itself : (l : Look) → same_look l l ≡ true
 look_itself l =
     and_from _ _ (and_from _ _ (and_from _ _ (obj_itself l.obj) ((bytes_eq-Decides l.bytes l.bytes).1 refl)) (uses_itself l.uses)) ((lists_equiv nat_list_eq_equiv).refl l.links)
 

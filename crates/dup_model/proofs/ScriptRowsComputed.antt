@@ -18,16 +18,20 @@ use Rattle.dup_model.specs.Content.{Content}
 use Rattle.dup_model.specs.Editions.{Page}
 use Rattle.dup_model.specs.FirstForm.{is_first_form}
 use Rattle.dup_model.specs.Inputs.{script}
+use Rattle.dup_model.specs.MachinePlays.{MachinePlays, limits_for}
 use Rattle.dup_model.specs.Pages.{live}
 use Rattle.dup_model.specs.PressRows.{events_site, page, title}
-use Rattle.dup_model.specs.Script.{Published, Session, after_command, first_session, page_text, play_answer, settled, settled_edition, settled_text, whole_site, with_pages}
+use Rattle.dup_model.specs.Sessions.{PlaysCommands, Published, Session, after_command, first_session, page_text, play_answer, settled, settled_edition, whole_site, with_pages}
+use Rattle.dup_model.specs.Texts.{settled_text}
 use Rattle.dup_model.specs.ScriptRows.{ScriptRow, input, output}
 use Rattle.dup_model.specs.Touched.{is_in, without}
-use Rattle.dup_model.specs.Transcript.{DoesSite, PlaysCommands, commands}
+use Rattle.dup_model.specs.Transcript.{DoesSite, PlaysScript}
 use Rattle.dup_model.specs.Versions.{content}
 use Rattle.dup_model.specs.Works.{more}
 use Rattle.dup_model.specs.declared.command.Command.TheVariants as command
+use Rattle.dup_model.specs.declared.mode.Mode.TheVariants.{Update}
 use Rattle.dup_model.specs.declared.task.Task.TheVariants.{Play}
+use Rattle.dup_model.proofs.MachineScripts.{sessions_are_the_machines}
 use Rattle.dup_model.proofs.Folds.{fold-Say, fold-Field}
 use Rattle.dup_model.proofs.Equations.{marks-Say, marks-Field}
 
@@ -108,7 +112,7 @@ plays s number (c ∷ cs) [] h = absurd h
 -- behind the settle
 abbrev later : List Command
 later =
-    command.Node 1 ∷ (command.Get 1 0 path ∷ (command.Get 1 0 (codes "/event/e2") ∷ (command.Get 2 0 (codes "/") ∷ (command.NotBuilt ∷ (command.Node 1 ∷ [])))))
+    command.Node 1 4 Update ∷ (command.Get 1 0 path ∷ (command.Get 1 0 (codes "/event/e2") ∷ (command.Get 2 0 (codes "/") ∷ (command.NotBuilt ∷ (command.Node 1 4 Update ∷ [])))))
 
 abbrev later_texts : List Word
 later_texts =
@@ -136,8 +140,10 @@ all_told = (refl, (told, subst (λ (s : Session). TellsEach s 10 later later_tex
 pub script_row : ScriptRow
 script_row g h =
     let read : Reading = reading 0 0 input in
-    let played : PlaysCommands events_site first_session 8 (commands g.feed (script read)) [] (joined texts) =
-    subst (λ (c : Command). PlaysCommands events_site first_session 8 (c ∷ (command.Settle ∷ later)) [] (joined texts)) (sym h.feed) (plays first_session 8 all_commands texts all_told) in
+    let replied : MachinePlays events_site (limits_for all_commands) [] 8 all_commands [] (joined texts) =
+    (sessions_are_the_machines events_site 8 all_commands [] (joined texts) first_form (refl, (tt, (tt, (tt, (tt, (tt, (tt, (tt, tt))))))))).0 (plays first_session 8 all_commands texts all_told) in
+    let played : PlaysScript g.feed events_site 8 (script read) (joined texts) =
+    subst (λ (c : Command). MachinePlays events_site (limits_for (c ∷ (command.Settle ∷ later))) [] 8 (c ∷ (command.Settle ∷ later)) [] (joined texts)) (sym h.feed) replied in
     let formed : DoesSite g Play (if_first_form events_site) read 0 output =
     subst (λ (b : Bool). DoesSite g Play (if b then Ok events_site else Err not_built_site) read 0 output) (sym first_form) (refl, (joined texts, refl, played)) in
     subst (λ (s : Result Parts SiteTextRefusal). DoesSite g Play (or_not_built (or_cause s)) read 0 output) (sym h.site) formed

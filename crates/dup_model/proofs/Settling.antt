@@ -25,7 +25,7 @@ use Rattle.dup_model.specs.Pages.{live}
 use Rattle.dup_model.specs.Touched.{same_obj, is_in, without, differs, touched, affected, renewed, expanded, joined}
 use Rattle.dup_model.specs.World.{World, Work, Slot, Event, Told, told}
 use Rattle.dup_model.specs.World.Event.{Begin, Hand, Put, Join, Finish}
-use Rattle.dup_model.specs.World.Told.{Unasked, Finished, Begins}
+use Rattle.dup_model.specs.World.Told.{Unasked, Finished, Begins, NoneWaits, SlotEmpty}
 use Rattle.dup_model.specs.World.Begun.{Nothing, Same}
 use Rattle.dup_model.specs.World.Ended.{Report}
 use Rattle.dup_model.specs.Works.{found, waiting, unjoined, level, first_work, work_from, moved, next_of, more, notes, stale, with_done, with_joined}
@@ -51,19 +51,20 @@ pub record Stands (w0 w : World) (work : Work) : Type 0 where
   pub commits : w.commits ≡ w0.commits
   pub target : w.target ≡ w0.target
   pub log : w.log ≡ w0.log
+  pub nodes : w.nodes ≡ w0.nodes
   pub has : w.work ≡ Some work
   pub slot : fin.get w.slots 0 ≡ None
   pub here : work.version ≡ length w0.commits
 
 module _ (site : Parts) (limits : Limits) (w0 : World) where
-  abbrev last : Content
+  abbrev pub last : Content
   last = content site w0.commits
 
-  abbrev Steps : World → List Event → World
+  abbrev pub Steps : World → List Event → World
   Steps w events = fold (step site limits) w events
 
   module _ (w : World) (work : Work) (s : Stands w0 w work) where
-    at_last : at site w work.version ≡ last
+    pub at_last : at site w work.version ≡ last
     at_last = (λ i. content site (take (s.here i) (s.commits i))) ∙ ap (content site) (take-length w0.commits)
 
     module _ (o : Obj) (next : next_of work.last_handed (waiting last work.done) ≡ Some o) (waits : is_in (waiting last work.done) o ≡ true) where
@@ -106,6 +107,7 @@ module _ (site : Parts) (limits : Limits) (w0 : World) where
         commits = s.commits;
         target = s.target;
         log = s.log;
+        nodes = s.nodes;
         has = refl;
         here = s.here;
         slot = fin.get-remove nat_cmp_total in_hand.slots 0 0;
@@ -139,18 +141,18 @@ no_one [] is = refl
 no_one (o ∷ os) is = absurd (omega (arith, is))
 
 module _ (site : Parts) (limits : Limits) (w0 : World) where
-  abbrev end : Content
+  abbrev pub end : Content
   end = content site w0.commits
 
-  -- after some hands nothing waits, and so many objects were expanded
-  record AreHanded (w : World) (work : Work) (total : ℕ) : Type 0 where
+  -- so many objects were left, and k times one was handed and put, where one waited
+  pub record AreHanded (w : World) (work : Work) (k total : ℕ) : Type 0 where
     pub then : Work
     pub stands : Stands w0 w then
-    pub calm : waiting end then.done ≡ []
+    pub calm : total ≤ k → waiting end then.done ≡ []
     pub looked : then.looked ≡ work.looked
     pub once : then.once ≡ work.once
     pub joined : then.joined ≡ work.joined
-    pub expanded : (j : ℕ) → work.expanded ≡ more 0 j → then.expanded ≡ more 0 (j + total)
+    pub expanded : waiting end then.done ≡ [] → (j : ℕ) → work.expanded ≡ more 0 j → then.expanded ≡ more 0 (j + total)
 
   left_of : (done : List Obj) (o : Obj) → is_in (waiting end done) o ≡ true → is_in (without (is_in done) (live end)) o ≡ true
   left_of done o h =
@@ -169,54 +171,89 @@ module _ (site : Parts) (limits : Limits) (w0 : World) where
       let every : (f : Obj) → is_in (found end done) f ≡ true → is_in done f ≡ true = done_unless_waiting end done none in
       none_left (is_in done) (live end) (λ x inside. every x (ap (λ l. is_in l x) (found_is_live end done every) ∙ inside))
 
-  hands_all : (k : ℕ) (w : World) (work : Work) → Stands w0 w work → length (without (is_in work.done) (live end)) ≡ k →
-      AreHanded (Steps site limits w0 w (hands k)) work k
-  hands_all zero w work s left = by_waiting (waiting end work.done) refl
+  none_next : (last : Option Obj) → next_of last [] ≡ None
+  none_next None = refl
+  none_next (Some o) = refl
+
+  -- where nothing waits, a hand and a put change nothing
+  hand_nothing : (w : World) (work : Work) → Stands w0 w work → waiting end work.done ≡ [] → Stands w0 (step site limits (step site limits w (Hand 0)) (Put 0)) work
+  hand_nothing w work s calm =
+      let first : step site limits w (Hand 0) ≡ told NoneWaits w =
+      (λ i. handed site 0 (s.has i) (s.slot i) w)
+      ∙ ap (λ o. handed_to 0 work o w) (ap (λ c. next_of work.last_handed (waiting c work.done)) (at_last site limits w0 w work s) ∙ ap (next_of work.last_handed) calm ∙ none_next work.last_handed) in
+      let goes : step site limits (step site limits w (Hand 0)) (Put 0) ≡ told (SlotEmpty 0) (told NoneWaits w) =
+      ap (λ v. step site limits v (Put 0)) first ∙ ap (λ o. put_from site 0 o (told NoneWaits w)) s.slot in
+      subst (λ v. Stands w0 v work) (sym goes) (record { commits = s.commits; target = s.target; log = s.log; nodes = s.nodes; has = s.has; slot = s.slot; here = s.here })
+
+  hands_any : (k n : ℕ) (w : World) (work : Work) → Stands w0 w work → length (without (is_in work.done) (live end)) ≡ n →
+      AreHanded (Steps site limits w0 w (hands k)) work k n
+  hands_any zero n w work s left = record {
+    then = work;
+    stands = s;
+    calm = λ few. by_waiting few (waiting end work.done) refl;
+    looked = refl;
+    once = refl;
+    joined = refl;
+    expanded = λ calm j count. count ∙ ap (more 0) (omega (arith, left, all_done work.done calm));
+  }
     where
-      by_waiting : (os : List Obj) → waiting end work.done ≡ os → AreHanded w work 0
-      by_waiting [] is = record { then = work; stands = s; calm = is; looked = refl; once = refl; joined = refl; expanded = λ j count. count ∙ ap (more 0) (omega arith) }
-      by_waiting (x ∷ xs) is =
-          absurd (omega (arith, left, has_one (without (is_in work.done) (live end)) x (left_of work.done x (ap (λ l. is_in l x) is ∙ or_left (same_obj x x) (is_in xs x) (obj_itself x)))))
-  hands_all (suc k) w work s left = by_waiting (λ v work s left. hands_all k v work s left) (waiting end work.done) refl
+      by_waiting : n ≤ 0 → (os : List Obj) → waiting end work.done ≡ os → os ≡ []
+      by_waiting few [] is = refl
+      by_waiting few (x ∷ xs) is =
+          absurd (omega (arith, few, left, has_one (without (is_in work.done) (live end)) x (left_of work.done x (ap (λ l. is_in l x) is ∙ or_left (same_obj x x) (is_in xs x) (obj_itself x)))))
+  hands_any (suc k) n w work s left = by_waiting (λ n v work s left. hands_any k n v work s left) (waiting end work.done) refl
     where
-      by_waiting : ((v : World) (work : Work) → Stands w0 v work → length (without (is_in work.done) (live end)) ≡ k → AreHanded (Steps site limits w0 v (hands k)) work k) →
-          (os : List Obj) → waiting end work.done ≡ os → AreHanded (Steps site limits w0 w (hands (suc k))) work (suc k)
-      by_waiting onward [] is = absurd (omega (arith, left, all_done work.done is))
+      by_waiting : ((n : ℕ) (v : World) (work : Work) → Stands w0 v work → length (without (is_in work.done) (live end)) ≡ n → AreHanded (Steps site limits w0 v (hands k)) work k n) →
+          (os : List Obj) → waiting end work.done ≡ os → AreHanded (Steps site limits w0 w (hands (suc k))) work (suc k) n
+      by_waiting onward [] is =
+          let rest : AreHanded (Steps site limits w0 (step site limits (step site limits w (Hand 0)) (Put 0)) (hands k)) work k n =
+          onward n (step site limits (step site limits w (Hand 0)) (Put 0)) work (hand_nothing w work s is) left in
+          record {
+            then = rest.then;
+            stands = rest.stands;
+            calm = λ few. rest.calm (omega (arith, left, all_done work.done is));
+            looked = rest.looked;
+            once = rest.once;
+            joined = rest.joined;
+            expanded = rest.expanded;
+          }
       by_waiting onward (x ∷ xs) is =
           let next : (o : Obj) × (next_of work.last_handed (x ∷ xs) ≡ Some o) × (is_in (x ∷ xs) o ≡ true) = next_in work.last_handed x xs in
           let waits : is_in (waiting end work.done) next.0 ≡ true = ap (λ l. is_in l next.0) is ∙ next.2 in
           let at : Stands w0 (step site limits (step site limits w (Hand 0)) (Put 0)) (with_done next.0 (record work { last_handed = Some next.0 })) =
           hand_put site limits w0 w work s next.0 (ap (next_of work.last_handed) is ∙ next.1) waits in
-          let rest : AreHanded (Steps site limits w0 (step site limits (step site limits w (Hand 0)) (Put 0)) (hands k)) (with_done next.0 (record work { last_handed = Some next.0 })) k =
-          onward (step site limits (step site limits w (Hand 0)) (Put 0)) (with_done next.0 (record work { last_handed = Some next.0 })) at
-          (omega (arith, one_done work.done next.0 waits, left)) in
+          let fewer : suc (length (without (is_in (in_order obj_cmp (next.0 ∷ work.done))) (live end))) ≡ n = one_done work.done next.0 waits ∙ left in
+          let rest : AreHanded (Steps site limits w0 (step site limits (step site limits w (Hand 0)) (Put 0)) (hands k)) (with_done next.0 (record work { last_handed = Some next.0 })) k
+          (length (without (is_in (in_order obj_cmp (next.0 ∷ work.done))) (live end))) =
+          onward (length (without (is_in (in_order obj_cmp (next.0 ∷ work.done))) (live end))) (step site limits (step site limits w (Hand 0)) (Put 0)) (with_done next.0 (record work { last_handed = Some next.0 })) at refl in
           record {
             then = rest.then;
             stands = rest.stands;
-            calm = rest.calm;
+            calm = λ few. rest.calm (omega (arith, fewer, few));
             looked = rest.looked;
             once = rest.once;
             joined = rest.joined;
-            expanded = λ j count. rest.expanded (suc j) (ap (λ e. more e 1) count ∙ more_more j 1 ∙ ap (more 0) (omega arith)) ∙ ap (more 0) (omega arith);
+            expanded = λ calm j count. rest.expanded calm (suc j) (ap (λ e. more e 1) count ∙ more_more j 1 ∙ ap (more 0) (omega arith)) ∙ ap (more 0) (omega (arith, fewer));
           }
 
   -- joining
 
   -- the objects that were joined now have looks, and had none at first
-  record AreJoined (looked0 once0 : List Obj) (work : Work) : Type 0 where
+  pub record AreJoined (looked0 once0 : List Obj) (work : Work) : Type 0 where
     pub now : List Obj
     pub looked : (x : Obj) → is_in work.looked x ≡ (is_in now x || is_in looked0 x)
     pub once : (x : Obj) → is_in work.once x ≡ (is_in now x || is_in once0 x)
     pub new : (x : Obj) → is_in now x ≡ true → is_in looked0 x ≡ false
 
-  record AllJoined (w : World) (work : Work) (looked0 once0 : List Obj) (total : ℕ) : Type 0 where
+  -- so many objects had no look, and m times a level was joined, where there was one
+  pub record AllJoined (w : World) (work : Work) (looked0 once0 : List Obj) (m total : ℕ) : Type 0 where
     pub then : Work
     pub stands : Stands w0 w then
     pub calm : waiting end then.done ≡ []
-    pub none : unjoined end then ≡ []
+    pub none : total ≤ m → unjoined end then ≡ []
     pub parts : AreJoined looked0 once0 then
     pub expanded : then.expanded ≡ work.expanded
-    pub joined : (j : ℕ) → work.joined ≡ more 0 j → then.joined ≡ more 0 (j + total)
+    pub joined : unjoined end then ≡ [] → (j : ℕ) → work.joined ≡ more 0 j → then.joined ≡ more 0 (j + total)
 
   or_assoc : (a b c : Bool) → (a || (b || c)) ≡ ((a || b) || c)
   or_assoc true b c = refl
@@ -262,42 +299,59 @@ module _ (site : Parts) (limits : Limits) (w0 : World) where
       (λ x h. unjoined_of work x (level_parts work x h))
 
   module _ (earlier : EmbedsEarlier end) where
-    joins_all : (n : ℕ) (looked0 once0 : List Obj) (w : World) (work : Work) → Stands w0 w work → waiting end work.done ≡ [] → AreJoined looked0 once0 work → length (unjoined end work) ≤ n →
-        (m : ℕ) × AllJoined (Steps site limits w0 w (joins m)) work looked0 once0 (length (unjoined end work))
-    joins_all zero looked0 once0 w work s calm are small =
-        let none : unjoined end work ≡ [] = no_one (unjoined end work) (omega (arith, small)) in
-        (0, record { then = work; stands = s; calm = calm; none = none; parts = are; expanded = refl; joined = λ j count. count ∙ ap (more 0) (omega (arith, ap length none)) })
-    joins_all (suc n) looked0 once0 w work s calm are small = by_unjoined (λ v new. joins_all n looked0 once0 v new) (unjoined end work) refl
+    joins_any : (m : ℕ) (looked0 once0 : List Obj) (w : World) (work : Work) → Stands w0 w work → waiting end work.done ≡ [] → AreJoined looked0 once0 work →
+        AllJoined (Steps site limits w0 w (joins m)) work looked0 once0 m (length (unjoined end work))
+    joins_any zero looked0 once0 w work s calm are = record {
+      then = work;
+      stands = s;
+      calm = calm;
+      none = λ few. no_one (unjoined end work) (omega (arith, few));
+      parts = are;
+      expanded = refl;
+      joined = λ none j count. count ∙ ap (more 0) (omega (arith, ap length none));
+    }
+    joins_any (suc m) looked0 once0 w work s calm are = by_unjoined (λ v new. joins_any m looked0 once0 v new) (unjoined end work) refl
       where
-        by_unjoined : ((v : World) (new : Work) → Stands w0 v new → waiting end new.done ≡ [] → AreJoined looked0 once0 new → length (unjoined end new) ≤ n →
-            (m : ℕ) × AllJoined (Steps site limits w0 v (joins m)) new looked0 once0 (length (unjoined end new))) →
-            (us : List Obj) → unjoined end work ≡ us → (m : ℕ) × AllJoined (Steps site limits w0 w (joins m)) work looked0 once0 (length (unjoined end work))
-        by_unjoined onward [] is = (0, record { then = work; stands = s; calm = calm; none = is; parts = are; expanded = refl; joined = λ j count. count ∙ ap (more 0) (omega (arith, ap length is)) })
+        by_unjoined : ((v : World) (new : Work) → Stands w0 v new → waiting end new.done ≡ [] → AreJoined looked0 once0 new →
+            AllJoined (Steps site limits w0 v (joins m)) new looked0 once0 m (length (unjoined end new))) →
+            (us : List Obj) → unjoined end work ≡ us → AllJoined (Steps site limits w0 w (joins (suc m))) work looked0 once0 (suc m) (length (unjoined end work))
+        by_unjoined onward [] is =
+            let there : at site w work.version ≡ end = at_last site limits w0 w work s in
+            let goes : step site limits w Join ≡ joined_by work [] [] (level end work) w =
+            (λ i. join_step site (s.has i) w) ∙ (λ i. joined_by work (waiting (there i) work.done) (unjoined (there i) work) (level (there i) work) w) ∙ (λ i. joined_by work (calm i) (is i) (level end work) w) in
+            let rest : AllJoined (Steps site limits w0 (joined_by work [] [] (level end work) w) (joins m)) work looked0 once0 m (length (unjoined end work)) =
+            onward (joined_by work [] [] (level end work) w) work (record { commits = s.commits; target = s.target; log = s.log; nodes = s.nodes; has = s.has; slot = s.slot; here = s.here }) calm are in
+            record {
+              then = rest.then;
+              stands = subst (λ v. Stands w0 (Steps site limits w0 v (joins m)) rest.then) (sym goes) rest.stands;
+              calm = rest.calm;
+              none = λ few. rest.none (omega (arith, ap length is));
+              parts = rest.parts;
+              expanded = rest.expanded;
+              joined = rest.joined;
+            }
         by_unjoined onward (u ∷ us) is =
             let some : (v : Obj) × (is_in (level end work) v ≡ true) = some_level end work earlier calm (suc u.template) u (omega arith) (ap (λ l. is_in l u) is ∙ or_left (same_obj u u) (is_in us u) (obj_itself u)) in
             let least : 1 ≤ length (level end work) = has_one (level end work) some.0 some.1 in
             let there : at site w work.version ≡ end = at_last site limits w0 w work s in
             let goes : step site limits w Join ≡ joined_by work [] (u ∷ us) (level end work) w =
             (λ i. join_step site (s.has i) w) ∙ (λ i. joined_by work (waiting (there i) work.done) (unjoined (there i) work) (level (there i) work) w) ∙ (λ i. joined_by work (calm i) (is i) (level end work) w) in
-            let rest : (m : ℕ) × AllJoined (Steps site limits w0 (joined_by work [] (u ∷ us) (level end work) w) (joins m)) (with_joined (level end work) work) looked0 once0 (length (unjoined end (with_joined (level end work) work))) =
+            let rest : AllJoined (Steps site limits w0 (joined_by work [] (u ∷ us) (level end work) w) (joins m)) (with_joined (level end work) work) looked0 once0 m (length (unjoined end (with_joined (level end work) work))) =
             onward (joined_by work [] (u ∷ us) (level end work) w) (with_joined (level end work) work)
-            (record { commits = s.commits; target = s.target; log = s.log; has = refl; slot = s.slot; here = s.here }) calm (joined_more looked0 once0 work are)
-            (omega (arith, level_less work, least, small)) in (
-              suc rest.0,
-              record {
-                then = rest.1.then;
-                stands = subst (λ v. Stands w0 (Steps site limits w0 v (joins rest.0)) rest.1.then) (sym goes) rest.1.stands;
-                calm = rest.1.calm;
-                none = rest.1.none;
-                parts = rest.1.parts;
-                expanded = rest.1.expanded;
-                joined = λ j count. rest.1.joined (j + length (level end work)) (ap (λ e. more e (length (level end work))) count ∙ more_more j (length (level end work)))
-                    ∙ ap (more 0) (omega (arith, level_less work));
-              },
-            )
+            (record { commits = s.commits; target = s.target; log = s.log; nodes = s.nodes; has = refl; slot = s.slot; here = s.here }) calm (joined_more looked0 once0 work are) in
+            record {
+              then = rest.then;
+              stands = subst (λ v. Stands w0 (Steps site limits w0 v (joins m)) rest.then) (sym goes) rest.stands;
+              calm = rest.calm;
+              none = λ few. rest.none (omega (arith, level_less work, least, few));
+              parts = rest.parts;
+              expanded = rest.expanded;
+              joined = λ none j count. rest.joined none (j + length (level end work)) (ap (λ e. more e (length (level end work))) count ∙ more_more j (length (level end work)))
+                  ∙ ap (more 0) (omega (arith, level_less work));
+            }
 
   -- the start of a work
-  record AreBegun (w : World) (work : Work) : Type 0 where
+  pub record AreBegun (w : World) (work : Work) : Type 0 where
     pub stands : Stands w0 w work
     pub done : without (is_in work.done) (live end) ≡ expanded (target_content site w0.commits w0.target) end
     pub looked : without (is_in work.looked) (live end) ≡ joined (target_content site w0.commits w0.target) end
@@ -325,7 +379,7 @@ module _ (site : Parts) (limits : Limits) (w0 : World) where
       first_work (length w0.commits),
       record {
         stands = subst (λ v. Stands w0 v (first_work (length w0.commits))) (sym (λ i. begun site (idle i) (none i) w0))
-            (record { commits = refl; target = refl; log = refl; has = refl; slot = empty; here = refl });
+            (record { commits = refl; target = refl; log = refl; nodes = refl; has = refl; slot = empty; here = refl });
         done = all_left (live end) ∙ sym (ap (λ t. expanded (option_map (version site w0.commits) t) end) none);
         looked = all_left (live end) ∙ sym (ap (λ t. joined (option_map (version site w0.commits) t) end) none);
         once = refl;
@@ -343,7 +397,7 @@ module _ (site : Parts) (limits : Limits) (w0 : World) where
           work_from (at site w0 a) (length w0.commits) end,
           record {
             stands = subst (λ v. Stands w0 v (work_from (at site w0 a) (length w0.commits) end)) (sym goes)
-                (record { commits = refl; target = refl; log = refl; has = refl; slot = empty; here = refl });
+                (record { commits = refl; target = refl; log = refl; nodes = refl; has = refl; slot = empty; here = refl });
             done = renewed_left touched (at site w0 a) ∙ sym (ap (λ t. expanded (option_map (version site w0.commits) t) end) some);
             looked = renewed_left affected (at site w0 a) ∙ sym (ap (λ t. joined (option_map (version site w0.commits) t) end) some);
             once = refl;
@@ -352,12 +406,12 @@ module _ (site : Parts) (limits : Limits) (w0 : World) where
           },
         )
 
-    begins : (target : Option ℕ) → w0.target ≡ target → (w0.target ≡ Some (length w0.commits) → ⊥) → (work : Work) × AreBegun (step site limits w0 Begin) work
+    pub begins : (target : Option ℕ) → w0.target ≡ target → (w0.target ≡ Some (length w0.commits) → ⊥) → (work : Work) × AreBegun (step site limits w0 Begin) work
     begins None is other = begun_none is
     begins (Some a) is other = begun_some a is (λ same. other (is ∙ ap Some same))
 
   -- from a work that is open at the last version to the report
-  finish_step : (v : World) (work : Work) (s : Stands w0 v work) → waiting end work.done ≡ [] → unjoined end work ≡ [] → step site limits v Finish ≡ finished_by end work [] [] v
+  pub finish_step : (v : World) (work : Work) (s : Stands w0 v work) → waiting end work.done ≡ [] → unjoined end work ≡ [] → step site limits v Finish ≡ finished_by end work [] [] v
   finish_step v work s calm none =
       let there : at site v work.version ≡ end = at_last site limits w0 v work s in
       (λ i. finished site (s.has i) v)
@@ -390,6 +444,8 @@ module _ (site : Parts) (limits : Limits) (w0 : World) where
     pub target : v.target ≡ Some (length w0.commits)
     pub commits : v.commits ≡ w0.commits
     pub log : v.log ≡ w0.log
+    pub nodes : v.nodes ≡ w0.nodes
+    pub slot : fin.get v.slots 0 ≡ None
     pub front : List Told
     pub expanded : ℕ
     pub joined : ℕ
@@ -403,35 +459,44 @@ module _ (site : Parts) (limits : Limits) (w0 : World) where
     pub all_joined : (j : ℕ) → work.joined ≡ more 0 j → joined ≡ more 0 (j + length (without (is_in work.looked) (live end)))
 
   module _ (earlier : EmbedsEarlier end) (w : World) (work : Work) (s : Stands w0 w work) where
-    to_hand : ℕ
+    abbrev pub to_hand : ℕ
     to_hand = length (without (is_in work.done) (live end))
 
-    after_hands : World
-    after_hands = Steps site limits w0 w (hands to_hand)
+    pub works : ℕ → ℕ → List Event
+    works k m = hands k ++ (joins m ++ Finish ∷ [])
 
-    pub works : ℕ → List Event
-    works m = hands to_hand ++ (joins m ++ Finish ∷ [])
+    pub ran : (k m : ℕ) → Steps site limits w0 w (works k m) ≡ step site limits (Steps site limits w0 (Steps site limits w0 w (hands k)) (joins m)) Finish
+    unfolding works
+    ran k m =
+        fold-append (step site limits) w (hands k) (joins m ++ Finish ∷ [])
+        ∙ fold-append (step site limits) (Steps site limits w0 w (hands k)) (joins m) (Finish ∷ [])
 
-    ran : (m : ℕ) → Steps site limits w0 w (works m) ≡ step site limits (Steps site limits w0 after_hands (joins m)) Finish
-    unfolding to_hand after_hands works
-    ran m =
-        fold-append (step site limits) w (hands (length (without (is_in work.done) (live end)))) (joins m ++ Finish ∷ [])
-        ∙ fold-append (step site limits) (Steps site limits w0 w (hands (length (without (is_in work.done) (live end))))) (joins m) (Finish ∷ [])
+    pub handed_by : (k : ℕ) → AreHanded (Steps site limits w0 w (hands k)) work k to_hand
+    handed_by k = hands_any k to_hand w work s refl
 
-    handed_all : AreHanded after_hands work to_hand
-    unfolding to_hand after_hands
-    handed_all = hands_all (length (without (is_in work.done) (live end))) w work s refl
+    pub joined_from : (k m : ℕ) → waiting end (handed_by k).then.done ≡ [] →
+        AllJoined (Steps site limits w0 (Steps site limits w0 w (hands k)) (joins m)) (handed_by k).then work.looked work.once m (length (unjoined end (handed_by k).then))
+    joined_from k m calm =
+        joins_any earlier m work.looked work.once (Steps site limits w0 w (hands k)) (handed_by k).then (handed_by k).stands calm (record {
+          now = [];
+          looked = λ x. ap (λ l. is_in l x) (handed_by k).looked;
+          once = λ x. ap (λ l. is_in l x) (handed_by k).once;
+          new = λ x inside. absurd (true≢false (sym inside));
+        })
 
-    ended : (m : ℕ) → AllJoined (Steps site limits w0 after_hands (joins m)) handed_all.then work.looked work.once (length (unjoined end handed_all.then)) → Ends (Steps site limits w0 w (works m)) work
-    unfolding to_hand
-    ended m j =
-        let v : World = Steps site limits w0 after_hands (joins m) in
-        let is_live : found end handed_all.then.done ≡ live end = found_is_live end handed_all.then.done (done_unless_waiting end handed_all.then.done handed_all.calm) in
-        subst (λ u. Ends u work) (sym (ran m ∙ finish_step v j.then j.stands j.calm j.none)) (record {
+    pub ended : (k m : ℕ) (calm : waiting end (handed_by k).then.done ≡ []) → unjoined end (joined_from k m calm).then ≡ [] → Ends (Steps site limits w0 w (works k m)) work
+    ended k m calm none =
+        let h : AreHanded (Steps site limits w0 w (hands k)) work k to_hand = handed_by k in
+        let j : AllJoined (Steps site limits w0 (Steps site limits w0 w (hands k)) (joins m)) (handed_by k).then work.looked work.once m (length (unjoined end (handed_by k).then)) = joined_from k m calm in
+        let v : World = Steps site limits w0 (Steps site limits w0 w (hands k)) (joins m) in
+        let is_live : found end h.then.done ≡ live end = found_is_live end h.then.done (done_unless_waiting end h.then.done calm) in
+        subst (λ u. Ends u work) (sym (ran k m ∙ finish_step v j.then j.stands j.calm none)) (record {
           idle = refl;
           target = ap Some j.stands.here;
           commits = j.stands.commits;
           log = j.stands.log;
+          nodes = j.stands.nodes;
+          slot = j.stands.slot;
           front = v.replies;
           expanded = j.then.expanded;
           joined = j.then.joined;
@@ -439,29 +504,24 @@ module _ (site : Parts) (limits : Limits) (w0 : World) where
             version = j.stands.here i;
             expanded = j.then.expanded;
             joined = j.then.joined;
-            kept = length (kept_left work.looked work.once j.then j.calm j.none j.parts i);
+            kept = length (kept_left work.looked work.once j.then j.calm none j.parts i);
           })) ∷ [];
-          all_expanded = λ n count. j.expanded ∙ handed_all.expanded n count;
-          all_joined = λ n count. j.joined n (handed_all.joined ∙ count) ∙ ap (λ k. more 0 (n + k)) (λ i. length (without (is_in (handed_all.looked i)) (is_live i)));
+          all_expanded = λ n count. j.expanded ∙ h.expanded calm n count;
+          all_joined = λ n count. j.joined none n (h.joined ∙ count) ∙ ap (λ k. more 0 (n + k)) (λ i. length (without (is_in (h.looked i)) (is_live i)));
         })
 
-    pub ends_from : (m : ℕ) × Ends (Steps site limits w0 w (works m)) work
+    pub ends_from : (m : ℕ) × Ends (Steps site limits w0 w (works (length (without (is_in work.done) (live end))) m)) work
     ends_from =
-        let are : AreJoined work.looked work.once handed_all.then = record {
-          now = [];
-          looked = λ x. ap (λ l. is_in l x) handed_all.looked;
-          once = λ x. ap (λ l. is_in l x) handed_all.once;
-          new = λ x inside. absurd (true≢false (sym inside));
-        } in
-        let j : (m : ℕ) × AllJoined (Steps site limits w0 after_hands (joins m)) handed_all.then work.looked work.once (length (unjoined end handed_all.then)) =
-        joins_all earlier (length (unjoined end handed_all.then)) work.looked work.once after_hands handed_all.then handed_all.stands handed_all.calm are (omega arith) in
-        (j.0, ended j.0 j.1)
+        let calm : waiting end (handed_by to_hand).then.done ≡ [] = (handed_by to_hand).calm (let h : to_hand ≤ to_hand = omega arith in h) in
+        let m : ℕ = length (unjoined end (handed_by to_hand).then) in
+        let none : unjoined end (joined_from to_hand m calm).then ≡ [] = (joined_from to_hand m calm).none (let h : m ≤ m = omega arith in h) in
+        (m, ended to_hand m calm none)
 
-    pub works_are : (m : ℕ) → works m ≡ hands (length (without (is_in work.done) (live end))) ++ (joins m ++ Finish ∷ [])
-    unfolding works to_hand
-    works_are m = refl
+    pub works_are : (k m : ℕ) → works k m ≡ hands k ++ (joins m ++ Finish ∷ [])
+    unfolding works
+    works_are k m = refl
 
-embeds_earlier : (site : Parts) (commits : List Commit) → EmbedsEarlier (start site) → EmbedsEarlier (content site commits)
+pub embeds_earlier : (site : Parts) (commits : List Commit) → EmbedsEarlier (start site) → EmbedsEarlier (content site commits)
 embeds_earlier site commits earlier =
     let is : IsOf site (content site commits) = content_of site commits in
     λ n. subst (λ f. AllByRecursion (λ name. template_at f name < n) (flat_map embedded (body_at (content site commits) n))) (sym is.frame)
@@ -474,18 +534,18 @@ small_more : (j : ℕ) → j ≤ 2 ^ 64 - 1 → j ≡ more 0 j
 small_more j h = omega (arith, h)
 
 module _ (site : Parts) (limits : Limits) (w : World) (earlier : EmbedsEarlier (start site)) (empty : fin.get w.slots 0 ≡ None) where
-  abbrev close : Content
+  abbrev pub close : Content
   close = content site w.commits
 
   -- the whole of it, from a work that `begin` leaves open
   settled_from : (v : World) (work : Work) → step site limits w Begin ≡ v → Stands w v work →
       (m : ℕ) × Ends site limits w (fold (step site limits) w (settling (length (without (is_in work.done) (live close))) m)) work
   settled_from v work is s =
-      let e : (m : ℕ) × Ends site limits w (fold (step site limits) v (works site limits w (embeds_earlier site w.commits earlier) v work s m)) work =
+      let e : (m : ℕ) × Ends site limits w (fold (step site limits) v (works site limits w (embeds_earlier site w.commits earlier) v work s (length (without (is_in work.done) (live close))) m)) work =
       ends_from site limits w (embeds_earlier site w.commits earlier) v work s in (
         e.0,
         subst (λ u. Ends site limits w u work)
-            ((λ i. fold (step site limits) (sym is i) (works_are site limits w (embeds_earlier site w.commits earlier) v work s e.0 i)))
+            ((λ i. fold (step site limits) (sym is i) (works_are site limits w (embeds_earlier site w.commits earlier) v work s (length (without (is_in work.done) (live close))) e.0 i)))
             e.1,
       )
 
@@ -494,34 +554,31 @@ module _ (site : Parts) (limits : Limits) (w : World) (earlier : EmbedsEarlier (
   begin_open work has = subst (λ v. Stands w v (begun_work site w work)) (sym (ap (λ o. begun site o w.target w) has)) (by_test (work.version == length w.commits) refl)
     where
       by_test : (b : Bool) → (work.version == length w.commits) ≡ b → Stands w (cond b (told (Begins (Same work.version)) w) (opened site (moved (at site w work.version) (length w.commits) (content site w.commits) work) w)) (cond b work (moved (at site w work.version) (length w.commits) (content site w.commits) work))
-      by_test true is = record { commits = refl; target = refl; log = refl; has = has; slot = empty; here = (Decides-eqb work.version (length w.commits)).0 is }
-      by_test false is = record { commits = refl; target = refl; log = refl; has = refl; slot = empty; here = refl }
+      by_test true is = record { commits = refl; target = refl; log = refl; nodes = refl; has = has; slot = empty; here = (Decides-eqb work.version (length w.commits)).0 is }
+      by_test false is = record { commits = refl; target = refl; log = refl; nodes = refl; has = refl; slot = empty; here = refl }
 
   pub resumed : (work : Work) → w.work ≡ Some work →
       (m : ℕ) × Ends site limits w (fold (step site limits) w (settling (length (without (is_in (begun_work site w work).done) (live close))) m)) (begun_work site w work)
   resumed work has = settled_from (step site limits w Begin) (begun_work site w work) refl (begin_open work has)
 
-  pub fresh : w.work ≡ None → (w.target ≡ Some (length w.commits) → ⊥) →
-      (m : ℕ) × IsSettled w (counts_of (target_content site w.commits w.target) close (length w.commits)) (fold (step site limits) w (settling (length (expanded (target_content site w.commits w.target) close)) m))
-  fresh idle other =
-      let b : (work : Work) × AreBegun site limits w (step site limits w Begin) work = begins site limits w idle empty w.target refl other in
-      let e : (m : ℕ) × Ends site limits w (fold (step site limits) w (settling (length (without (is_in b.0.done) (live close))) m)) b.0 =
-      settled_from (step site limits w Begin) b.0 refl b.1.stands in (
-        e.0,
-        subst (λ k. IsSettled w (counts_of (target_content site w.commits w.target) close (length w.commits)) (fold (step site limits) w (settling k e.0))) (ap length b.1.done) (record {
-          idle = e.1.idle;
-          target = e.1.target;
-          commits = e.1.commits;
-          log = e.1.log;
-          front = e.1.front;
-          report = e.1.report ∙ (λ i. e.1.front ++ Finished (Report (record {
-            version = length w.commits;
-            expanded = (e.1.all_expanded 0 b.1.expanded ∙ ap (more 0) (plus_zero (length (without (is_in b.0.done) (live close)))) ∙ ap (λ l. more 0 (length l)) b.1.done) i;
-            joined = (e.1.all_joined 0 b.1.joined ∙ ap (more 0) (plus_zero (length (without (is_in b.0.looked) (live close)))) ∙ ap (λ l. more 0 (length l)) b.1.looked) i;
-            kept = length ((ap (λ o. filter (λ x. is_in b.0.looked x && not (is_in o x)) (live close)) b.1.once ∙ old_left b.0 b.1.looked) i);
-          })) ∷ []);
-        }),
-      )
+  -- a work that was opened, and has come to its end
+  pub settled_as : (v : World) (work : Work) → AreBegun site limits w (step site limits w Begin) work → Ends site limits w v work →
+      IsSettled w (counts_of (target_content site w.commits w.target) close (length w.commits)) v
+  settled_as v work b e = record {
+    idle = e.idle;
+    target = e.target;
+    commits = e.commits;
+    log = e.log;
+    nodes = e.nodes;
+    slot = e.slot;
+    front = e.front;
+    report = e.report ∙ (λ i. e.front ++ Finished (Report (record {
+      version = length w.commits;
+      expanded = (e.all_expanded 0 b.expanded ∙ ap (more 0) (plus_zero (length (without (is_in work.done) (live close)))) ∙ ap (λ l. more 0 (length l)) b.done) i;
+      joined = (e.all_joined 0 b.joined ∙ ap (more 0) (plus_zero (length (without (is_in work.looked) (live close)))) ∙ ap (λ l. more 0 (length l)) b.looked) i;
+      kept = length ((ap (λ o. filter (λ x. is_in work.looked x && not (is_in o x)) (live close)) b.once ∙ old_left b.looked) i);
+    })) ∷ []);
+  }
     where
       -- what had a look is what isn't to be joined
       and_true : (b : Bool) → (b && not false) ≡ b
@@ -532,12 +589,23 @@ module _ (site : Parts) (limits : Limits) (w : World) (earlier : EmbedsEarlier (
       not_not true = refl
       not_not false = refl
 
-      old_left : (work : Work) → without (is_in work.looked) (live close) ≡ joined (target_content site w.commits w.target) close →
+      old_left : without (is_in work.looked) (live close) ≡ joined (target_content site w.commits w.target) close →
           filter (λ x. is_in work.looked x && not (is_in [] x)) (live close) ≡ without (is_in (joined (target_content site w.commits w.target) close)) (live close)
-      old_left work is = filter_same (λ x. is_in work.looked x && not (is_in [] x)) (λ x. not (is_in (joined (target_content site w.commits w.target) close) x)) (live close) (λ x inside.
+      old_left is = filter_same (λ x. is_in work.looked x && not (is_in [] x)) (λ x. not (is_in (joined (target_content site w.commits w.target) close) x)) (live close) (λ x inside.
           and_true (is_in work.looked x) ∙ not_not (is_in work.looked x)
           ∙ ap (λ b. not (b && not (is_in work.looked x))) (sym inside)
           ∙ ap not (sym (in_filter (λ o. not (is_in work.looked o)) (live close) x) ∙ ap (λ l. is_in l x) is))
+
+  pub fresh : w.work ≡ None → (w.target ≡ Some (length w.commits) → ⊥) →
+      (m : ℕ) × IsSettled w (counts_of (target_content site w.commits w.target) close (length w.commits)) (fold (step site limits) w (settling (length (expanded (target_content site w.commits w.target) close)) m))
+  fresh idle other =
+      let b : (work : Work) × AreBegun site limits w (step site limits w Begin) work = begins site limits w idle empty w.target refl other in
+      let e : (m : ℕ) × Ends site limits w (fold (step site limits) w (settling (length (without (is_in b.0.done) (live close))) m)) b.0 =
+      settled_from (step site limits w Begin) b.0 refl b.1.stands in (
+        e.0,
+        subst (λ k. IsSettled w (counts_of (target_content site w.commits w.target) close (length w.commits)) (fold (step site limits) w (settling k e.0))) (ap length b.1.done)
+            (settled_as (fold (step site limits) w (settling (length (without (is_in b.0.done) (live close))) e.0)) b.0 b.1 e.1),
+      )
 
 pub settle_reports : SettleReports
 settle_reports site limits w earlier idle other empty = fresh site limits w earlier empty idle other
@@ -553,6 +621,8 @@ settle_resumes site limits w work earlier has empty expanded_fits joined_fits =
         target = e.1.target;
         commits = e.1.commits;
         log = e.1.log;
+        nodes = e.1.nodes;
+        slot = e.1.slot;
         front = e.1.front;
         report = e.1.report ∙ (λ i. e.1.front ++ Finished (Report (record {
           version = length w.commits;

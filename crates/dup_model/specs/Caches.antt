@@ -3,11 +3,9 @@ use Rattle.std.specs.Prelude.{ℕ, nat_lt, ◌∷◌, [], Bool, not, ◌||◌, L
 use Rattle.std.specs.List.{filter, filter_map, find, list_any}
 use Rattle.std.specs.FinMap as fin
 use Rattle.dup_names.specs.Words.{Path}
+use Rattle.dup_model.specs.declared.mode.Mode.{Mode}
+use Rattle.dup_model.specs.declared.mode.Mode.TheVariants.{Invalidate, Update}
 use Rattle.dup_model.specs.Editions.{Page, Edition, Bundle, edition}
-
-pub data Mode : Type 0 where
-  Invalidate : Mode
-  Update : Mode
 
 -- entries are most recent first
 pub record Cache : Type 0 where

@@ -3,7 +3,9 @@ use Rattle.std.specs.Prelude.{◌≡◌, ℕ, List, [], ◌∷◌, ◌++◌, Som
 use Rattle.dup_names.specs.Words.{Word}
 use Rattle.dup_names.specs.declared.object.Obj.{Obj}
 use Rattle.dup_model.specs.Editions.{Page, Bundle}
-use Rattle.dup_model.specs.Caches.{Mode, Cache, Invalidate, Update, catch_up}
+use Rattle.dup_model.specs.Caches.{Cache, catch_up}
+use Rattle.dup_model.specs.declared.mode.Mode.{Mode}
+use Rattle.dup_model.specs.declared.mode.Mode.TheVariants.{Invalidate, Update}
 
 abbrev pub event_page : Word → ℕ → Word → Page
 event_page key version bytes =

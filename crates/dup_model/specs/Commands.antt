@@ -1,5 +1,5 @@
 -- What the lines of a script command.
-use Rattle.std.specs.Prelude.{◌≡◌, ℕ, Bool, true, false, ◌&&◌, ◌||◌, List, [], ◌∷◌, length, Option, Some, None, codes, nat_eq, nat_le, if◌then◌else◌}
+use Rattle.std.specs.Prelude.{◌≡◌, ℕ, Bool, true, false, ◌&&◌, List, [], ◌∷◌, length, Option, Some, None, codes, nat_eq, nat_le, if◌then◌else◌}
 use Rattle.std.specs.List.{list_all}
 use Rattle.dup_names.specs.Grammar.{is_path}
 use Rattle.dup_names.specs.LineWords.{is_space, line_words, trimmed}
@@ -11,6 +11,8 @@ use Rattle.dup_model.specs.declared.command.Command.{Command as CommandOf}
 use Rattle.dup_model.specs.declared.command.Command.TheVariants as command
 use Rattle.dup_model.specs.declared.command.Command.TheVariants.{Blank, Settle, Node, Get, NotBuilt}
 use Rattle.dup_model.specs.declared.edit.Edit.{Edit}
+use Rattle.dup_model.specs.declared.mode.Mode.{Mode}
+use Rattle.dup_model.specs.declared.mode.Mode.TheVariants.{Invalidate, Update}
 use Rattle.dup_model.specs.declared.edit.Edit.TheVariants.{Put, Remove}
 
 abbrev pub Command : Type 0
@@ -23,13 +25,13 @@ is_node n = nat_le 1 n && nat_le n 16
 abbrev pub is_capacity : ℕ → Bool
 is_capacity n = nat_le 1 n && nat_le n 65536
 
-abbrev pub is_mode : Word → Bool
-is_mode w = same w (codes "update") || same w (codes "invalidate")
+abbrev pub mode_of : Word → Option Mode
+mode_of w = if same w (codes "update") then Some Update else (if same w (codes "invalidate") then Some Invalidate else None)
 
 -- `node S CAPACITY MODE`
-abbrev pub node_command : Option ℕ → Option ℕ → Word → Command
-node_command (Some node) (Some capacity) mode = if is_node node && is_capacity capacity && is_mode mode then Node node else NotBuilt
-node_command _ _ mode = NotBuilt
+abbrev pub node_command : Option ℕ → Option ℕ → Option Mode → Command
+node_command (Some number) (Some capacity) (Some mode) = if is_node number && is_capacity capacity then Node number capacity mode else NotBuilt
+node_command _ _ _ = NotBuilt
 
 -- `get S PASS PATH`
 abbrev pub get_command : Option ℕ → Option ℕ → Word → Command
@@ -41,7 +43,7 @@ one_word word = if same word (codes "settle") then Settle else NotBuilt
 
 abbrev pub four_words : Word → Word → Word → Word → Command
 four_words word a b c =
-    if same word (codes "node") then node_command (number_of a) (number_of b) c else
+    if same word (codes "node") then node_command (number_of a) (number_of b) (mode_of c) else
     (if same word (codes "get") then get_command (number_of a) (number_of b) c else NotBuilt)
 
 abbrev pub by_words : List Word → Command

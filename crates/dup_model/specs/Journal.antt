@@ -44,3 +44,11 @@ commit_refusal site limits commits commit =
 abbrev pub unless_refused : List Commit → Commit → Option Refusal → List Commit
 unless_refused commits commit None = commits ++ commit ∷ []
 unless_refused commits commit (Some why) = commits
+
+-- why a commit is refused behind these commits, with the usual room for rows
+abbrev pub refused_behind : Parts → List Commit → Commit → Option Refusal
+refused_behind site commits commit = refusal (content site commits) commit usual_limits.rows
+
+-- the commits once another came
+abbrev pub with_commit : Parts → List Commit → Commit → List Commit
+with_commit site commits commit = unless_refused commits commit (refused_behind site commits commit)

@@ -50,8 +50,10 @@ pub mod ChangedItems
 pub mod PressRows
 pub mod Numbers
 pub mod Commands
-pub mod Script
+pub mod Texts
+pub mod Sessions
 pub mod Transcript
+pub mod MachinePlays
 pub mod BadSites
 pub mod FirstForm
 pub mod Inputs
@@ -59,3 +61,5 @@ pub mod RenderedPages
 pub mod CommandTable
 pub mod WrittenLines
 pub mod ScriptRows
+pub mod RowPages
+pub mod RowCounts

@@ -3,7 +3,8 @@ use Rattle.std.specs.Prelude.{ℕ, Bool, not, [], Option, Some, None, length, by
 use Rattle.std.specs.List.{filter, list_any}
 use Rattle.std.specs.FinMap as fin
 use Rattle.dup_names.specs.Words.{Path}
-use Rattle.dup_model.specs.Caches.{Mode, Cache, catch_up}
+use Rattle.dup_model.specs.Caches.{Cache, catch_up}
+use Rattle.dup_model.specs.declared.mode.Mode.{Mode}
 use Rattle.dup_model.specs.Answers.{answer}
 use Rattle.dup_model.specs.World.{World, told, answered}
 use Rattle.dup_model.specs.World.Told.{NodeMade, NodeTaken, NoNode, Delivered, Evicted}

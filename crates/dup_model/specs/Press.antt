@@ -23,14 +23,14 @@ use Rattle.dup_model.specs.Works.{waiting, unjoined, level, first_work, work_fro
 abbrev pub at : Parts → World → ℕ → Content
 at site w v = version site w.commits v
 
--- what is told of a commit that is refused for this cause, if any
-abbrev pub commit_told : World → Option Refusal → Told
-commit_told w None = Committed (length w.commits + 1)
-commit_told w (Some why) = Refused why
+-- what is told of a commit behind these, which is refused for this cause, if any
+abbrev pub commit_told : List Commit → Option Refusal → Told
+commit_told commits None = Committed (length commits + 1)
+commit_told commits (Some why) = Refused why
 
 -- a commit comes, and is refused for this cause, if any
 abbrev pub committed : Commit → Option Refusal → World → World
-committed c why w = told (commit_told w why) (record w { commits = unless_refused w.commits c why })
+committed c why w = told (commit_told w.commits why) (record w { commits = unless_refused w.commits c why })
 
 -- this work is open at the last version
 abbrev pub opened : Parts → Work → World → World

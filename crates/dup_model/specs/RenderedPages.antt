@@ -11,7 +11,8 @@ use Rattle.dup_model.specs.Commits.{Commit, Refusal}
 use Rattle.dup_model.specs.Versions.{content}
 use Rattle.dup_model.specs.Pages.{pages}
 use Rattle.dup_model.specs.Show.{show}
-use Rattle.dup_model.specs.Script.{not_built_text, refusal_text, refused_behind, with_commit}
+use Rattle.dup_model.specs.Journal.{refused_behind, with_commit}
+use Rattle.dup_model.specs.Texts.{not_built_text, refusal_text}
 use Rattle.dup_model.specs.Commands.{Command}
 use Rattle.dup_model.specs.declared.command.Command.TheVariants as command
 

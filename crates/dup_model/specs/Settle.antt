@@ -61,12 +61,14 @@ counts_from b v work = record {
   kept = length (filter (λ o. is_in work.looked o && not (is_in work.once o)) (live b));
 }
 
--- no work is open any more, the target is of the last version, and the last reply is this report
+-- no work is open any more, the target is of the last version, the slot is empty, and the last reply is this report; all else is as it was
 pub record IsSettled (w : World) (counts : Counts) (v : World) : Type 0 where
   pub idle : v.work ≡ None
   pub target : v.target ≡ Some (length w.commits)
   pub commits : v.commits ≡ w.commits
   pub log : v.log ≡ w.log
+  pub nodes : v.nodes ≡ w.nodes
+  pub slot : fin.get v.slots 0 ≡ None
   pub front : List Told
   pub report : v.replies ≡ front ++ Finished (Report counts) ∷ []
 

@@ -1,5 +1,5 @@
 -- The transcript of an input: what `play`, `check` and `render` write for it, and how they end.
-use Rattle.std.specs.Prelude.{◌≡◌, ℕ, ◌+◌, Bool, true, false, List, [], ◌∷◌, ◌++◌, codes, if◌then◌else◌, nat_eq, Result, Ok, Err}
+use Rattle.std.specs.Prelude.{◌≡◌, ℕ, Bool, true, false, List, [], ◌∷◌, ◌++◌, codes, if◌then◌else◌, nat_eq, Result, Ok, Err}
 use Rattle.std.specs.Fmt.{decimal}
 use Rattle.dup_names.specs.Lines.{Reading, Whole, Next, LongLine, LongInput, line}
 use Rattle.dup_names.specs.Words.{Word}
@@ -11,7 +11,7 @@ use Rattle.dup_model.specs.Commits.{Commit}
 use Rattle.dup_model.specs.Content.{Content}
 use Rattle.dup_model.specs.Inputs.{script, site_is_read, site_lines, site_text}
 use Rattle.dup_model.specs.RenderedPages.{last_content, render_answers, rendered_pages}
-use Rattle.dup_model.specs.Script.{Session, after_command, play_answer, first_session}
+use Rattle.dup_model.specs.MachinePlays.{MachinePlays, limits_for}
 use Rattle.dup_model.specs.declared.task.Task.{Task}
 use Rattle.dup_model.specs.declared.task.Task.TheVariants.{Play, Check, Render}
 
@@ -50,20 +50,16 @@ abbrev pub commands : (Word → Command) → Reading → List Command
 commands feed (Next text rest) = line_command feed text ∷ commands feed rest
 commands feed _ = []
 
--- what may be written for commands, behind a session and so many lines, where this is written last
-abbrev pub PlaysCommands : Parts → Session → ℕ → List Command → Word → Word → Type 0
-PlaysCommands site s number [] last out = out ≡ last
-PlaysCommands site s number (command ∷ rest) last out =
-    (more : Word) × (out ≡ play_answer site s (number + 1) command ++ more) × PlaysCommands site (after_command site s command) (number + 1) rest last more
-
--- what may be written for a script, behind a session and so many lines: the answers to its commands, and what is too long
-abbrev pub Writes : (Word → Command) → Parts → Session → ℕ → Reading → Word → Type 0
-Writes feed site s number input out = PlaysCommands site s number (commands feed input) (too_long input) out
+-- what is written for a script behind a site text of so many lines: what the machine replies to its commands, and what is too long
+abbrev pub PlaysScript : (Word → Command) → Parts → ℕ → Reading → Word → Type 0
+PlaysScript feed site number input out =
+    let all = commands feed input in
+    MachinePlays site (limits_for all) [] number all (too_long input) out
 
 -- a site is played: `site ok`, and then the answers to the script
 abbrev pub Plays : (Word → Command) → Parts → Reading → ℕ → Word → Type 0
 Plays feed site input status out =
-    (status ≡ ending input) × ((more : Word) × (out ≡ site_ok ++ more) × Writes feed site first_session (site_lines input) (script input) more)
+    (status ≡ ending input) × ((more : Word) × (out ≡ site_ok ++ more) × PlaysScript feed site (site_lines input) (script input) more)
 
 -- what stands behind the answers of a render: the pages of the last content, where nothing is too long
 abbrev pub render_end : Content → Reading → Word

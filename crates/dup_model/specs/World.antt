@@ -8,7 +8,8 @@ use Rattle.dup_names.specs.declared.value.Value.{Value}
 use Rattle.dup_names.specs.Words.{Path}
 use Rattle.dup_model.specs.Commits.{Commit, Refusal}
 use Rattle.dup_model.specs.Editions.{Bundle, Page}
-use Rattle.dup_model.specs.Caches.{Mode, Cache}
+use Rattle.dup_model.specs.Caches.{Cache}
+use Rattle.dup_model.specs.declared.mode.Mode.{Mode}
 use Rattle.dup_model.specs.Answers.{Reply, How}
 
 -- a work: its version, the object last handed, the objects whose skeletons and whose looks it has, those that it joined, and two counts

@@ -1,3 +1,4 @@
+use crate::mode::Mode;
 use dup_names::Path;
 
 /// What a line of a script asks, where `C` is the form that commits have. What stands for a line that
@@ -7,7 +8,15 @@ pub enum Command<C> {
     Blank,
     Commit(C),
     Settle,
-    Node(u16),
-    Get { node: u16, pass: u64, path: Path },
+    Node {
+        number: u16,
+        capacity: u32,
+        mode: Mode,
+    },
+    Get {
+        node: u16,
+        pass: u64,
+        path: Path,
+    },
     NotBuilt,
 }

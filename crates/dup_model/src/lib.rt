@@ -10,6 +10,7 @@ mod edit;
 mod example_rows;
 mod machine_laws;
 mod mark;
+mod mode;
 mod output_laws;
 mod publishing_laws;
 mod rendering_laws;
@@ -24,7 +25,11 @@ pub use example_rows::{
 };
 pub use machine_laws::{headline, runs_law, settle_law, status_law};
 pub use mark::Mark;
-pub use output_laws::{commands_law, lines_law, numbers_law, transcripts_law};
+pub use mode::Mode;
+pub use output_laws::{
+    commands_law, lines_law, numbers_law, plays_law, row_counts_law, row_pages_law, sessions_law,
+    transcripts_law,
+};
 pub use publishing_laws::{bundle_law, closed_law, finest_law, targets_law};
 pub use rendering_laws::{
     changes_law, expansions_law, good_sites_law, incremental_law, jobs_law, shows_law, uses_law,

@@ -1,6 +1,10 @@
 //! What is read of an input, and what is written for it.
 ghost use Rattle.dup_model.specs.CommandTable.{EachIsRead};
+ghost use Rattle.dup_model.specs.MachinePlays.{PlaysAreOne, PlaysExist, SettlesLeaveNothing};
 ghost use Rattle.dup_model.specs.Numbers.{NumbersAreDecimal};
+ghost use Rattle.dup_model.specs.RowCounts.{RowsAreCounted};
+ghost use Rattle.dup_model.specs.RowPages.{RowsHavePages};
+ghost use Rattle.dup_model.specs.Sessions.{SessionsAreTheMachines};
 ghost use Rattle.dup_model.specs.Transcript.{TranscriptsAreOne, TranscriptsExist};
 ghost use Rattle.dup_model.specs.WrittenLines.{LinesAreFound, LinesAreRead};
 
@@ -24,4 +28,26 @@ pub fn commands_law()
 pub fn transcripts_law()
     ensures exist { TranscriptsExist }
     ensures one { TranscriptsAreOne }
+{}
+
+/// The machine answers each list of commands, and in one way; and once settled, nothing is pending.
+pub fn plays_law()
+    ensures exist { PlaysExist }
+    ensures one { PlaysAreOne }
+    ensures settled { SettlesLeaveNothing }
+{}
+
+/// In a site of the first form each row has a page, in the order of the keys, and nothing else has one.
+pub fn row_pages_law()
+    ensures { RowsHavePages }
+{}
+
+/// In such a site what is expanded, joined and kept from one settle to the next are counts of rows.
+pub fn row_counts_law()
+    ensures { RowsAreCounted }
+{}
+
+/// In such a site, where each commit is one put, what a script is answered may be told without events of the machine.
+pub fn sessions_law()
+    ensures { SessionsAreTheMachines }
 {}

@@ -1,5 +1,5 @@
 -- The pages of a site of the first form.
-use Rattle.std.proofs.Common.{◌≡◌, Bool, true, false, ◌&&◌, refl, sym, ap, ◌∙◌, subst, List, [], ◌∷◌, ◌++◌, map, append-nil}
+use Rattle.std.proofs.Common.{◌≡◌, ℕ, zero, suc, ◌<◌, Bool, true, false, ◌&&◌, refl, sym, ap, ◌∙◌, subst, List, [], ◌∷◌, ◌++◌, map, append-nil}
 use Rattle.std.specs.Prelude.{Option, Some, None, is_some}
 use Rattle.std.specs.List.{flat_map, list_all, AllByRecursion, slice_get}
 use Rattle.std.specs.Option.{unwrap_or}
@@ -16,13 +16,15 @@ use Rattle.dup_template.specs.declared.site.PageRule.{PageRule}
 use Rattle.dup_template.specs.declared.site.PageRule.TheVariants.{Fixed, Family}
 use Rattle.dup_template.specs.declared.statement.Statement.{Statement}
 use Rattle.dup_template.specs.declared.statement.Statement.TheVariants as s
-use Rattle.dup_template.specs.declared.statement.Statement.TheVariants.{rolls-Nl, rolls-Key, rolls-If, rolls-Each, rolls-Embed, rolls-Link}
+use Rattle.dup_template.specs.declared.statement.Statement.TheVariants.{rolls-Say, rolls-Nl, rolls-Field, rolls-Key, rolls-If, rolls-Each, rolls-Embed, rolls-Link}
 use Rattle.dup_template.specs.declared.statement.Statement.TheFolds.{fold-roll-Statement}
-use Rattle.dup_model.specs.Content.{Content, Table, IsOf, keys, table, body_at}
+use Rattle.dup_model.specs.Content.{Content, Table, IsOf, keys, start, table, body_at}
+use Rattle.dup_model.specs.Embeddings.{EmbedsEarlier, embedded}
 use Rattle.dup_model.specs.Frame.{Head, frame_of, bodies_of}
 use Rattle.dup_model.specs.Here.{Here, row_at}
 use Rattle.dup_model.specs.Jobs.{IsJob}
 use Rattle.dup_model.specs.Looks.{look, uses}
+use Rattle.dup_model.specs.Names.{template_at}
 use Rattle.dup_model.specs.Marks.{statement_marks, body_marks, here_at}
 use Rattle.dup_model.specs.Pages.{pages, pages_of}
 use Rattle.dup_model.specs.Show.{show}
@@ -30,12 +32,11 @@ use Rattle.dup_model.specs.Skeletons.{goes, goes_by, embeds}
 use Rattle.dup_model.specs.Tables.{IsRising}
 use Rattle.dup_model.proofs.Equations.{marks-Say, marks-Field}
 use Rattle.dup_model.proofs.Induction.{by_forms}
-use Rattle.dup_model.specs.FirstForm.{is_simple, is_kind, is_kind_with, is_first_form}
-use Rattle.dup_main.specs.Kept.{plain_look}
-use Rattle.dup_main.specs.RowPages.{row_object, row_page, row_path, prefix_in, HasRowPages, RowsHavePages}
+use Rattle.dup_model.specs.FirstForm.{is_simple, is_family_of, is_kind, is_kind_with, is_first_form}
+use Rattle.dup_model.specs.RowPages.{HasRowPages, RowsHavePages, plain_look, prefix_in, row_object, row_page, row_path}
 use Rattle.dup_template.specs.Paths.{path_at}
-use Rattle.dup_main.proofs.SameWords.{same_back}
-use Rattle.dup_main.proofs.Rising.{in_order_rising, rises_map, text_cmp_front}
+use Rattle.dup_model.proofs.SameWords.{same_back}
+use Rattle.dup_model.proofs.Rising.{in_order_rising, rises_map, text_cmp_front}
 
 -- other statements aren't simple
 not_nl : is_simple s.Nl ≡ false
@@ -65,6 +66,19 @@ goes_nowhere c key = by_forms (GoesNowhere c key) (record {
   say = λ words is. simp marks-Say refl;
   nl = λ is. absurd (let h = not_nl in cc);
   field = λ name is. simp marks-Field refl;
+  key = λ is. absurd (let h = not_key in cc);
+  if_field = λ name body all is. absurd (let h = not_if name body in cc);
+  each = λ name by order body all is. absurd (let h = not_each name by order body in cc);
+  embed = λ name via is. absurd (let h = not_embed name via in cc);
+  link = λ name via body all is. absurd (let h = not_link name via body in cc);
+})
+
+-- and embeds nothing
+embeds_nothing : (x : Statement) → is_simple x ≡ true → embedded x ≡ []
+embeds_nothing = by_forms (λ x. is_simple x ≡ true → embedded x ≡ []) (record {
+  say = λ words is. rw (← rolls-Say words, fold-roll-Statement) refl;
+  nl = λ is. absurd (let h = not_nl in cc);
+  field = λ name is. rw (← rolls-Field name, fold-roll-Statement) refl;
   key = λ is. absurd (let h = not_key in cc);
   if_field = λ name body all is. absurd (let h = not_if name body in cc);
   each = λ name by order body all is. absurd (let h = not_each name by order body in cc);
@@ -225,3 +239,31 @@ path_from (k ∷ []) (t ∷ []) (Family prefix name ∷ []) key is =
 
 pub path_formed : (site : Parts) (key : Word) → is_first_form site ≡ true → path_at site (row_object key) ≡ Some (row_path site key)
 path_formed site key form = path_from site.kinds site.templates site.pages key form
+
+-- a template of such a site embeds nothing
+body_embeds : (body : List Statement) → list_all is_simple body ≡ true → flat_map embedded body ≡ []
+body_embeds [] simple = refl
+body_embeds (x ∷ xs) simple =
+    let h = both (is_simple x) (list_all is_simple xs) simple in
+    ap (λ (l : List Word). l ++ flat_map embedded xs) (embeds_nothing x h.0) ∙ body_embeds xs h.1
+
+earlier_from : (kinds : List KindPart) (templates : List TemplatePart) (rules : List PageRule) → is_kind_with kinds templates rules ≡ true
+    → EmbedsEarlier (start (record { kinds = kinds; templates = templates; pages = rules }))
+earlier_from [] templates rules is = absurd (cc)
+earlier_from (k ∷ l ∷ kinds) templates rules is = absurd (cc)
+earlier_from (k ∷ []) [] rules is = absurd (cc)
+earlier_from (k ∷ []) (t ∷ u ∷ templates) rules is = absurd (cc)
+earlier_from (k ∷ []) (t ∷ []) rules is = λ n. by_number n
+  where
+    simple : list_all is_simple t.body ≡ true
+    simple = (both (is_kind k.name t.kind) (list_all is_simple t.body) (both (is_kind k.name t.kind && list_all is_simple t.body) (is_family_of t.name rules) is).0).1
+
+    none : (c : Content) (n : ℕ) → AllByRecursion (λ name. template_at c.frame name < n) (flat_map embedded t.body)
+    none c n = subst (AllByRecursion (λ name. template_at c.frame name < n)) (sym (body_embeds t.body simple)) tt
+
+    by_number : EmbedsEarlier (start (record { kinds = k ∷ []; templates = t ∷ []; pages = rules }))
+    by_number zero = none (start (record { kinds = k ∷ []; templates = t ∷ []; pages = rules })) zero
+    by_number (suc n) = tt
+
+pub embeds_earlier : (site : Parts) → is_first_form site ≡ true → EmbedsEarlier (start site)
+embeds_earlier site form = earlier_from site.kinds site.templates site.pages form

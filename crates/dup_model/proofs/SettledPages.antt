@@ -1,7 +1,7 @@
--- After a settle the edition is the whole site.
-use Rattle.std.proofs.Common.{◌≡◌, ℕ, zero, suc, ◌+◌, Bool, true, false, cond, ◌||◌, refl, sym, ap, ◌∙◌, subst, List, [], ◌∷◌, ◌++◌, length}
-use Rattle.std.specs.Prelude.{Option, Some, None, is_some, slice_set, slice_get, if◌then◌else◌, Result, Ok, Err, nat_eq, ◌&&◌}
-use Rattle.std.specs.List.{fold, list_any}
+-- What stands in the edition after a settle, over a site of the first form.
+use Rattle.std.proofs.Common.{◌≡◌, ℕ, zero, suc, ◌+◌, Bool, true, false, cond, ◌||◌, refl, sym, ap, ◌∙◌, subst, List, [], ◌∷◌, ◌++◌, map, length}
+use Rattle.std.specs.Prelude.{Option, Some, None, is_some, slice_set, slice_get, if◌then◌else◌}
+use Rattle.std.specs.List.{list_any}
 use Rattle.std.specs.Option.{option_map, option_or, unwrap_or}
 use Rattle.std.specs.Ordering.{eq_by_cmp, is_eq}
 use Rattle.std.specs.Cmp.Lexicographic.{nat_list_cmp_total}
@@ -9,16 +9,10 @@ use Rattle.std.specs.FinMap as fin
 use Rattle.std.specs.declared.cmp.Ordering.{Ordering}
 use Rattle.std.specs.declared.cmp.Ordering.TheVariants.{Less, Equal, Greater}
 use Rattle.std.proofs.lemmas.Grind.{fold-append}
-use Rattle.std.specs.Prelude.{codes}
-use Rattle.dup_names.specs.Grammar.{is_path}
 use Rattle.dup_names.specs.Order.{text_cmp}
-use Rattle.dup_names.specs.Words.{Word, Path, same}
+use Rattle.dup_names.specs.Words.{Word, Path}
 use Rattle.dup_names.specs.declared.value.Look.{Look}
-use Rattle.dup_feed.specs.Feed.{feed_says}
-use Rattle.dup_feed.specs.declared.refusal.FeedRefusal.{FeedRefusal}
-use Rattle.dup_names.specs.LineWords.{line_words, trimmed}
 use Rattle.dup_template.specs.declared.site.Parts.{Parts}
-use Rattle.dup_model.specs.declared.edit.Edit.{Edit}
 use Rattle.dup_model.specs.declared.edit.Edit.TheVariants.{Put, Remove}
 use Rattle.dup_model.specs.Commits.{Commit, Refusal, after, put_row, put_row_at}
 use Rattle.dup_model.specs.Content.{Content, Entry, Table, start, table}
@@ -31,21 +25,22 @@ use Rattle.dup_model.specs.Versions.{content}
 use Rattle.dup_model.proofs.Histories.{content_of}
 use Rattle.dup_model.proofs.Sound.{look_same}
 use Rattle.dup_model.proofs.Tables.{versions_rise}
-use Rattle.dup_model.specs.Commands.{Command, by_message, by_start, by_words, get_command, is_capacity, is_mode, is_node, is_one_put, message_of, node_command}
+use Rattle.dup_model.specs.Commands.{Command, is_one_put}
 use Rattle.dup_model.specs.declared.command.Command.TheVariants as command
-use Rattle.dup_main.specs.Commands.{command_of, commit_command, message_command}
 use Rattle.dup_model.specs.FirstForm.{is_first_form}
-use Rattle.dup_main.specs.Headline.{SettledEditionsAreWhole, session_after}
-use Rattle.dup_model.specs.Numbers.{number_of}
-use Rattle.dup_main.specs.RowPages.{prefix_in, row_page, row_path}
-use Rattle.dup_model.specs.Script.{Session, Published, with_pages, with_page, shows, whole_site, after_command, refused_behind, settled, first_session, has_node}
-use Rattle.dup_main.proofs.Editions.{same_path}
-use Rattle.dup_main.proofs.Published.{pages_from}
-use Rattle.dup_main.proofs.Rising.{text_cmp_front}
-use Rattle.dup_main.proofs.RowPageLemmas.{rising_table, row_pages}
+use Rattle.dup_model.specs.RowPages.{prefix_in, row_page, row_path}
+use Rattle.dup_model.specs.Journal.{refused_behind}
+use Rattle.dup_model.specs.Sessions.{IsPutting, Session, Published, with_pages, with_page, shows, whole_site, after_command, settled, first_session, has_node}
+use Rattle.dup_model.proofs.Reached.{tie_same}
+use Rattle.dup_model.proofs.Rising.{text_cmp_front}
+use Rattle.dup_model.proofs.RowPageLemmas.{rising_table, row_pages}
+
+-- the pages of rows
+abbrev pub pages_from : Parts → Content → Table → List (Path × Look)
+pages_from site c rows = map (row_page site c) (map (λ e. e.0) rows)
 
 -- the look at each path, with one page more
-one_look : (v : ℕ) (p : Published) (at : Path × Look) (q : Path) → looks (with_page v p at).edition q ≡ cond (eq_by_cmp text_cmp q at.0) (Some at.1) (looks p.edition q)
+pub one_look : (v : ℕ) (p : Published) (at : Path × Look) (q : Path) → looks (with_page v p at).edition q ≡ cond (eq_by_cmp text_cmp q at.0) (Some at.1) (looks p.edition q)
 one_look v p at q = by_test (shows (fin.get p.edition at.0) at.1) refl
   where
     new : Page
@@ -56,7 +51,7 @@ one_look v p at q = by_test (shows (fin.get p.edition at.0) at.1) refl
     same_there (Some page) is = ap (λ (l : Look). Some l) (look_same page.look at.1 is)
 
     by_tie : (b : Bool) → eq_by_cmp text_cmp q at.0 ≡ b → shows (fin.get p.edition at.0) at.1 ≡ true → looks p.edition q ≡ cond b (Some at.1) (looks p.edition q)
-    by_tie true tie is = ap (looks p.edition) (same_path q at.0 tie) ∙ same_there (fin.get p.edition at.0) is
+    by_tie true tie is = ap (looks p.edition) (tie_same q at.0 tie) ∙ same_there (fin.get p.edition at.0) is
     by_tie false tie is = refl
 
     moved : (b : Bool) → option_map (λ page. page.look) (cond b (Some new) (fin.get p.edition q)) ≡ cond b (Some at.1) (looks p.edition q)
@@ -69,7 +64,7 @@ one_look v p at q = by_test (shows (fin.get p.edition at.0) at.1) refl
     by_test false is = ap (option_map (λ page. page.look)) (fin.get-insert nat_list_cmp_total p.edition at.0 new q) ∙ moved (eq_by_cmp text_cmp q at.0)
 
 -- no path stands twice
-abbrev IsDistinct : List (Path × Look) → Type 0
+abbrev pub IsDistinct : List (Path × Look) → Type 0
 IsDistinct [] = Unit {0}
 IsDistinct (at ∷ l) = (fin.find text_cmp at.0 l ≡ None) × IsDistinct l
 
@@ -81,11 +76,11 @@ published_looks v (at ∷ l) h p q =
   where
     by_tie : (b : Bool) → eq_by_cmp text_cmp q at.0 ≡ b
         → option_or (fin.find text_cmp q l) (cond b (Some at.1) (looks p.edition q)) ≡ option_or (cond b (Some at.1) (fin.find text_cmp q l)) (looks p.edition q)
-    by_tie true tie = ap (λ (o : Option Look). option_or o (Some at.1)) (ap (λ (x : Path). fin.find text_cmp x l) (same_path q at.0 tie) ∙ h.0)
+    by_tie true tie = ap (λ (o : Option Look). option_or o (Some at.1)) (ap (λ (x : Path). fin.find text_cmp x l) (tie_same q at.0 tie) ∙ h.0)
     by_tie false tie = refl
 
 module _ (site : Parts) where
-  path_order : (a b : Word) → text_cmp (row_path site a) (row_path site b) ≡ text_cmp a b
+  pub path_order : (a b : Word) → text_cmp (row_path site a) (row_path site b) ≡ text_cmp a b
   path_order a b = text_cmp_front (prefix_in site.pages) (47 ∷ a) (47 ∷ b) ∙ text_cmp_front (47 ∷ []) a b
 
   none_above : (c : Content) (key : Word) (rows : Table) → IsBelow key rows → fin.find text_cmp (row_path site key) (pages_from site c rows) ≡ None
@@ -93,15 +88,15 @@ module _ (site : Parts) where
   none_above c key (e ∷ es) h =
       ap (λ (o : Ordering). cond (is_eq o) (Some (row_page site c e.0).1) (fin.find text_cmp (row_path site key) (pages_from site c es))) (path_order key e.0 ∙ h.0) ∙ none_above c key es h.1
 
-  distinct_rows : (c : Content) (rows : Table) → IsRising rows → IsDistinct (pages_from site c rows)
+  pub distinct_rows : (c : Content) (rows : Table) → IsRising rows → IsDistinct (pages_from site c rows)
   distinct_rows c [] h = tt
   distinct_rows c (e ∷ es) h = (none_above c e.0 es h.0, distinct_rows c es h.1)
 
   -- a row has this path
-  abbrev has : Path → Table → Bool
+  abbrev pub has : Path → Table → Bool
   has q rows = list_any (λ e. eq_by_cmp text_cmp q (row_path site e.0)) rows
 
-  found_rows : (c : Content) (q : Path) (rows : Table) → is_some (fin.find text_cmp q (pages_from site c rows)) ≡ has q rows
+  pub found_rows : (c : Content) (q : Path) (rows : Table) → is_some (fin.find text_cmp q (pages_from site c rows)) ≡ has q rows
   found_rows c q [] = refl
   found_rows c q (e ∷ es) = by_test (eq_by_cmp text_cmp q (row_path site e.0)) (found_rows c q es)
     where
@@ -143,61 +138,16 @@ module _ (site : Parts) where
   after_put q c (Remove name key ∷ []) is h = absurd (cc)
   after_put q c (d ∷ e ∷ es) is h = absurd (cc)
 
--- the commits of a script are puts
-abbrev IsPutting : Command → Type 0
-IsPutting (command.Commit commit) = is_one_put commit ≡ true
-IsPutting _ = Unit {0}
-
-either : (b : Bool) (x y : Command) → IsPutting x → IsPutting y → IsPutting (if b then x else y)
-either true x y h g = h
-either false x y h g = g
-
-by_node : (a b : Option ℕ) (mode : Word) → IsPutting (node_command a b mode)
-by_node None b mode = tt
-by_node (Some node) None mode = tt
-by_node (Some node) (Some capacity) mode = either (is_node node && is_capacity capacity && is_mode mode) (command.Node node) command.NotBuilt tt tt
-
-by_get : (a b : Option ℕ) (path : Word) → IsPutting (get_command a b path)
-by_get None b path = tt
-by_get (Some node) None path = tt
-by_get (Some node) (Some pass) path = either (is_node node && is_path path) (command.Get node pass path) command.NotBuilt tt tt
-
-words_put : (words : List Word) → IsPutting (by_words words)
-words_put [] = tt
-words_put (w ∷ []) = either (same w (codes "settle")) command.Settle command.NotBuilt tt tt
-words_put (w ∷ a ∷ []) = tt
-words_put (w ∷ a ∷ b ∷ []) = tt
-words_put (w ∷ a ∷ b ∷ c ∷ []) =
-    either (same w (codes "node")) (node_command (number_of a) (number_of b) c) (if same w (codes "get") then get_command (number_of a) (number_of b) c else command.NotBuilt)
-    (by_node (number_of a) (number_of b) c) (either (same w (codes "get")) (get_command (number_of a) (number_of b) c) command.NotBuilt (by_get (number_of a) (number_of b) c) tt)
-words_put (w ∷ a ∷ b ∷ c ∷ d ∷ words) = tt
-
-commit_puts : (r : Result (List Edit) FeedRefusal) → IsPutting (commit_command r)
-commit_puts (Ok commit) = by_test (is_one_put commit) refl
-  where
-    by_test : (b : Bool) → is_one_put commit ≡ b → IsPutting (if b then command.Commit commit else command.NotBuilt)
-    by_test true is = is
-    by_test false is = tt
-commit_puts (Err why) = tt
-
-message_puts : (o : Option Word) (text : Word) → IsPutting (by_message message_command o text)
-message_puts None text = words_put (line_words text)
-message_puts (Some message) text = commit_puts (feed_says message)
-
-start_puts : (text : Word) → IsPutting (by_start message_command text)
-start_puts [] = tt
-start_puts (b ∷ rest) = either (nat_eq b 35) command.Blank (by_message message_command (message_of (b ∷ rest)) (b ∷ rest)) tt (message_puts (message_of (b ∷ rest)) (b ∷ rest))
-
 module _ (site : Parts) (form : is_first_form site ≡ true) where
   -- each path of the edition is that of a row of the last version
-  abbrev Covers : Session → Type 0
+  abbrev pub Covers : Session → Type 0
   Covers s = (q : Path) → is_some (looks s.edition q) ≡ true → has site q (table (content site s.commits) 0) ≡ true
 
-  abbrev rows_of : Session → Table
+  abbrev pub rows_of : Session → Table
   rows_of s = table (content site s.commits) 0
 
   -- the looks of the edition after a settle
-  settled_looks : (s : Session) (q : Path)
+  pub settled_looks : (s : Session) (q : Path)
       → looks (settled site s).edition q ≡ option_or (fin.find text_cmp q (pages_from site (content site s.commits) (rows_of s))) (looks s.edition q)
   settled_looks s q =
       let c = content site s.commits in
@@ -224,22 +174,18 @@ module _ (site : Parts) (form : is_first_form site ≡ true) where
   covers_node s node true h = h
   covers_node s node false h = h
 
-  covers_one : (s : Session) (c : Command) → IsPutting c → Covers s → Covers (after_command site s c)
+  pub covers_one : (s : Session) (c : Command) → IsPutting c → Covers s → Covers (after_command site s c)
   covers_one s (command.Commit commit) is h = covers_commit s commit (refused_behind site s.commits commit) is h
   covers_one s command.Settle is h = covers_settle s h
-  covers_one s (command.Node node) is h = covers_node s node (has_node s node) h
+  covers_one s (command.Node node capacity mode) is h = covers_node s node (has_node s node) h
   covers_one s (command.Get node pass path) is h = h
   covers_one s command.Blank is h = h
   covers_one s command.NotBuilt is h = h
 
-  covers_lines : (s : Session) (lines : List Word) → Covers s → Covers (fold (λ s text. after_command site s (command_of text)) s lines)
-  covers_lines s [] h = h
-  covers_lines s (text ∷ lines) h = covers_lines (after_command site s (command_of text)) lines (covers_one s (command_of text) (start_puts (trimmed text)) h)
-
-  covers_first : Covers first_session
+  pub covers_first : Covers first_session
   covers_first q there = absurd (let e : fin.get (fin.empty {X = Page} {R = text_cmp}) q ≡ None = fin.get-empty text_cmp q in let f : is_some (looks fin.empty q) ≡ false = ap (λ (o : Option Page). is_some (option_map (λ page. page.look) o)) e in cc)
 
-  whole_after : (s : Session) → Covers s → (q : Path) → looks (settled site s).edition q ≡ target_looks (target (content site s.commits)) q
+  pub whole_after : (s : Session) → Covers s → (q : Path) → looks (settled site s).edition q ≡ target_looks (target (content site s.commits)) q
   whole_after s h q =
       let c = content site s.commits in
       let pages : whole_site c ≡ pages_from site c (table c 0) = (row_pages site c form (content_of site s.commits) (versions_rise site s.commits)).pages in
@@ -251,11 +197,3 @@ module _ (site : Parts) (form : is_first_form site ≡ true) where
       by_find (Some a) b is = refl
       by_find None None is = refl
       by_find None (Some b) is = absurd (let e : false ≡ true = is refl in cc)
-
-pub settled_whole : SettledEditionsAreWhole
-settled_whole site lines text path form settles =
-    let s = session_after site lines in
-    let e : session_after site (lines ++ text ∷ []) ≡ settled site s =
-    fold-append (λ s text. after_command site s (command_of text)) first_session lines (text ∷ []) ∙ ap (after_command site s) settles in
-    subst (λ (t : Session). looks t.edition path ≡ target_looks (target (content site t.commits)) path) (sym e)
-    (whole_after site form s (covers_lines site form first_session lines (covers_first site form)) path)

@@ -18,10 +18,10 @@ use Rattle.dup_model.specs.Touched.{differs, touched, affected, is_in}
 use Rattle.dup_model.proofs.Ordering.{any_in_order, any_append}
 use Rattle.dup_model.proofs.Incremental.{item_tied}
 use Rattle.dup_model.proofs.Objects.{in_filter, filter_same}
-use Rattle.dup_main.specs.RowPages.{row_object}
-use Rattle.dup_main.specs.RowCounts.{is_read_anew, is_renewed, RowsAreCounted}
-use Rattle.dup_main.proofs.RowPageLemmas.{row_pages, one_object}
-use Rattle.dup_main.proofs.SameWords.{same_back}
+use Rattle.dup_model.specs.RowPages.{row_object}
+use Rattle.dup_model.specs.RowCounts.{is_read_anew, is_renewed, RowsAreCounted}
+use Rattle.dup_model.proofs.RowPageLemmas.{row_pages, one_object}
+use Rattle.dup_model.proofs.SameWords.{same_back}
 
 body_reads : (a b : Content) (key : Word) (body : List Statement) → list_any (differs a b) (flat_map read_by (body_marks a body (row_at 0 (Some key)))) ≡ list_any (is_read_anew a b key) body
 body_reads a b key [] = refl

@@ -11,8 +11,11 @@ use Rattle.dup_model.specs.Pages.{live}
 use Rattle.dup_model.specs.Show.{show}
 use Rattle.dup_model.specs.Tables.{TablesRise}
 use Rattle.dup_model.specs.FirstForm.{is_first_form}
-use Rattle.dup_main.specs.Kept.{plain_look}
-use Rattle.dup_model.specs.Script.{whole_site}
+use Rattle.dup_model.specs.Sessions.{whole_site}
+
+-- the look of a page that embeds nothing and has no links
+abbrev pub plain_look : Obj → Word → Look
+plain_look obj bytes = record { obj = obj; bytes = bytes; uses = (obj, bytes) ∷ []; links = [] }
 
 -- the object of a row's page
 abbrev pub row_object : Word → Obj

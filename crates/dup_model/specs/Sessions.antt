@@ -1,23 +1,28 @@
--- What the commands of a script do, and what they are answered.
-use Rattle.std.specs.Prelude.{ℕ, ◌+◌, ◌-◌, Bool, false, not, List, [], ◌∷◌, ◌++◌, map, Option, Some, None, codes, length, nat_le, nat_eq, if◌then◌else◌}
-use Rattle.std.specs.Fmt.{decimal}
-use Rattle.std.specs.List.{fold, list_any}
+-- What a script makes and is answered without the events of the machine, where the site is of the first form and each commit is one put: the law `sessions_law`.
+use Rattle.std.specs.Prelude.{◌≡◌, ◌↔◌, ℕ, ◌+◌, ◌-◌, Bool, true, false, not, List, [], ◌∷◌, ◌++◌, map, Option, Some, None, length, nat_le, nat_eq, if◌then◌else◌}
+use Rattle.std.specs.List.{AllByRecursion, fold, list_any}
 use Rattle.std.specs.FinMap as fin
-use Rattle.dup_names.specs.Lines.{line}
+use Rattle.dup_names.specs.Lines.{Reading}
 use Rattle.dup_names.specs.Words.{Word, Path}
 use Rattle.dup_names.specs.declared.value.Look.{Look}
 use Rattle.dup_template.specs.declared.site.Parts.{Parts}
 use Rattle.dup_model.specs.Content.{Content}
-use Rattle.dup_model.specs.Commits.{Commit, Refusal, UnknownKind, UnknownField, NoRow, KindFull, JournalFull, refusal}
+use Rattle.dup_model.specs.Commits.{Commit, Refusal}
 use Rattle.dup_model.specs.Versions.{content, target_content}
 use Rattle.dup_model.specs.Looks.{look}
 use Rattle.dup_model.specs.Pages.{pages}
 use Rattle.dup_model.specs.Needs.{same_look}
 use Rattle.dup_model.specs.Editions.{Page, Edition}
-use Rattle.dup_model.specs.Journal.{unless_refused, usual_limits}
+use Rattle.dup_model.specs.Journal.{refused_behind, with_commit}
 use Rattle.dup_model.specs.Settle.{counts_of}
-use Rattle.dup_model.specs.World.{Counts}
-use Rattle.dup_model.specs.Commands.{Command}
+use Rattle.dup_model.specs.FirstForm.{is_first_form}
+use Rattle.dup_model.specs.MachinePlays.{MachinePlays, limits_for}
+use Rattle.dup_model.specs.Transcript.{commands, too_long}
+use Rattle.dup_model.specs.World.Told.{Absent, Ahead, Found, NodeMade, NodeTaken, NoNode}
+use Rattle.dup_model.specs.Answers.How.{MissUnkept}
+use Rattle.dup_model.specs.Press.{commit_told}
+use Rattle.dup_model.specs.Texts.{told_text, settled_text, not_built_text}
+use Rattle.dup_model.specs.Commands.{Command, is_one_put}
 use Rattle.dup_model.specs.declared.command.Command.TheVariants as command
 
 -- the commits that were accepted; the version that was last settled, if any; the newest edition and its number; and the nodes' numbers
@@ -66,14 +71,6 @@ settled site s = record s {
   edition = (settled_edition site s).edition;
 }
 
--- why a commit is refused behind these commits, with the usual room for rows
-abbrev pub refused_behind : Parts → List Commit → Commit → Option Refusal
-refused_behind site commits commit = refusal (content site commits) commit usual_limits.rows
-
--- the commits once another came
-abbrev pub with_commit : Parts → List Commit → Commit → List Commit
-with_commit site commits commit = unless_refused commits commit (refused_behind site commits commit)
-
 abbrev pub has_node : Session → ℕ → Bool
 has_node s node = list_any (nat_eq node) s.nodes
 
@@ -84,27 +81,13 @@ add_node s node = if has_node s node then s else record s { nodes = s.nodes ++ n
 abbrev pub after_command : Parts → Session → Command → Session
 after_command site s (command.Commit commit) = record s { commits = with_commit site s.commits commit }
 after_command site s command.Settle = settled site s
-after_command site s (command.Node node) = add_node s node
+after_command site s (command.Node node capacity mode) = add_node s node
 after_command site s (command.Get node pass path) = s
 after_command site s command.Blank = s
 after_command site s command.NotBuilt = s
 
-abbrev pub refusal_text : Refusal → Word
-refusal_text (UnknownKind n) = line (codes "refused unknown kind at " ++ decimal n)
-refusal_text (UnknownField n) = line (codes "refused unknown field at " ++ decimal n)
-refusal_text (NoRow n) = line (codes "refused no row at " ++ decimal n)
-refusal_text (KindFull n) = line (codes "refused kind full at " ++ decimal n)
-refusal_text (JournalFull commits bytes) = line (codes "refused journal full")
-
 abbrev pub commit_text : Session → Option Refusal → Word
-commit_text s (Some why) = refusal_text why
-commit_text s None = line (codes "committed " ++ decimal (length s.commits + 1))
-
--- the version, the edition, the bundles that made it, and how many objects were expanded, joined and kept
-abbrev pub settled_text : ℕ → ℕ → Counts → Word
-settled_text edition bundles counts =
-    line (codes "settled " ++ decimal counts.version ++ codes " edition " ++ decimal edition ++ codes " bundles " ++ decimal bundles
-    ++ codes " expanded " ++ decimal counts.expanded ++ codes " joined " ++ decimal counts.joined ++ codes " kept " ++ decimal counts.kept)
+commit_text s why = told_text (commit_told s.commits why)
 
 abbrev pub settle_text : Parts → Session → Word
 settle_text site s =
@@ -112,31 +95,43 @@ settle_text site s =
     (counts_of (target_content site s.commits s.target) (content site s.commits) (length s.commits))
 
 abbrev pub node_text : Session → ℕ → Word
-node_text s node = if has_node s node then line (codes "node " ++ decimal node ++ codes " taken") else line (codes "node " ++ decimal node)
-
-abbrev pub found_text : ℕ → Page → Word
-found_text edition page =
-    line (codes "found " ++ decimal edition ++ codes " " ++ decimal page.version ++ codes " miss " ++ decimal (length page.look.bytes)) ++ line page.look.bytes
+node_text s node = if has_node s node then told_text (NodeTaken node) else told_text (NodeMade node)
 
 abbrev pub page_text : ℕ → Option Page → Word
-page_text edition None = line (codes "absent " ++ decimal edition)
-page_text edition (Some page) = found_text edition page
+page_text edition None = told_text (Absent edition)
+page_text edition (Some page) = told_text (Found edition page MissUnkept)
 
 -- a request at an empty cache: the newest edition answers, where it is no older than the pass
 abbrev pub get_text : Session → ℕ → ℕ → Path → Word
 get_text s node pass path =
-    if not (has_node s node) then line (codes "no node " ++ decimal node) else
-    (if nat_le pass s.number then page_text s.number (fin.get s.edition path)
-    else line (codes "ahead " ++ decimal pass ++ codes " " ++ decimal s.number))
-
-abbrev pub not_built_text : ℕ → Word
-not_built_text number = line (codes "not built " ++ decimal number)
+    if not (has_node s node) then told_text (NoNode node) else
+    (if nat_le pass s.number then page_text s.number (fin.get s.edition path) else told_text (Ahead pass s.number))
 
 -- the answer to the command in the line of this number
 abbrev pub play_answer : Parts → Session → ℕ → Command → Word
 play_answer site s number (command.Commit commit) = commit_text s (refused_behind site s.commits commit)
 play_answer site s number command.Settle = settle_text site s
-play_answer site s number (command.Node node) = node_text s node
+play_answer site s number (command.Node node capacity mode) = node_text s node
 play_answer site s number (command.Get node pass path) = get_text s node pass path
 play_answer site s number command.Blank = []
 play_answer site s number command.NotBuilt = not_built_text number
+
+-- what is written for commands, behind a session and so many lines, where this is written last
+abbrev pub PlaysCommands : Parts → Session → ℕ → List Command → Word → Word → Type 0
+PlaysCommands site s number [] last out = out ≡ last
+PlaysCommands site s number (command ∷ rest) last out =
+    (more : Word) × (out ≡ play_answer site s (number + 1) command ++ more) × PlaysCommands site (after_command site s command) (number + 1) rest last more
+
+-- what is written for a script, behind a session and so many lines: the answers to its commands, and what is too long
+abbrev pub Writes : (Word → Command) → Parts → Session → ℕ → Reading → Word → Type 0
+Writes feed site s number input out = PlaysCommands site s number (commands feed input) (too_long input) out
+
+-- a commit is one put, as each that is built
+abbrev pub IsPutting : Command → Type 0
+IsPutting (command.Commit commit) = is_one_put commit ≡ true
+IsPutting _ = Unit {0}
+
+-- so is written just what the machine replies
+abbrev pub SessionsAreTheMachines : Type 0
+SessionsAreTheMachines = (site : Parts) (number : ℕ) (commands : List Command) (last out : Word) → is_first_form site ≡ true → AllByRecursion IsPutting commands →
+    PlaysCommands site first_session number commands last out ↔ MachinePlays site (limits_for commands) [] number commands last out
