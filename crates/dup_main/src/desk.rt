@@ -6,7 +6,7 @@ ghost use Rattle.dup_main.specs.Stops.{StopsAt, stop_status, stop_text, writes};
 ghost use Rattle.dup_main.specs.Tasks.{task_of};
 ghost use Rattle.dup_main.specs.Transcript.{WritesTranscript, usage};
 ghost use Rattle.dup_model.specs.Headline.{Headline};
-ghost use Rattle.dup_model.specs.MachinePlays.{SettlesLeaveNothing};
+ghost use Rattle.dup_model.specs.MachinePlays.{CommandsLeaveReady, SettlesLeaveNothing, StartsReady};
 ghost use Rattle.dup_model.specs.Transcript.{too_long_line};
 
 use crate::bad_site::bad_site_text;
@@ -126,8 +126,11 @@ pub fn desk_main<R: Threads + Sync, S: Source, K: Sink>(
     ensures no_read_fault { result ≢ 3 → result ≢ 4 → S.faults input.new ≡ S.faults input.old }
     ensures no_write_fault { result ≢ 4 → K.faults out.new ≡ K.faults out.old }
     ensures memory { result ≡ 6 → IsSome (task_of words.now) }
-    // The headline: over every list of events of the machine, whose replies a transcript of `play` tells. Once settled, nothing is pending.
+    // The headline: over every list of events of the machine, whose replies a transcript of `play` tells.
     ensures headline { Headline }
+    // Between two commands of a script no work is open, and a settle leaves nothing pending.
+    ensures starts { StartsReady }
+    ensures ready { CommandsLeaveReady }
     ensures settled { SettlesLeaveNothing }
     ensures others { (result ≡ 0) ⊎ (result ≡ 2) ⊎ (result ≡ 3) ⊎ (result ≡ 4) ⊎ (result ≡ 5) ⊎ (result ≡ 6) ⊎ (result ≡ 7) }
 {

@@ -18,7 +18,7 @@ use Rattle.dup_model.specs.Content.{start}
 use Rattle.dup_model.specs.Editions.{Bundle, bundle_of, edition, history, looks, target_looks}
 use Rattle.dup_model.specs.Embeddings.{EmbedsEarlier}
 use Rattle.dup_model.specs.Journal.{Limits, commit_refusal, unless_refused}
-use Rattle.dup_model.specs.MachinePlays.{IsReady, IsTold, LastTold, MachinePlays, PlaysAreOne, PlaysExist, Settles, SettlesLeaveNothing, StandsFor}
+use Rattle.dup_model.specs.MachinePlays.{CommandsLeaveReady, IsReady, IsTold, LastTold, MachinePlays, PlaysAreOne, PlaysExist, Settles, SettlesLeaveNothing, StandsFor, StartsReady}
 use Rattle.dup_model.specs.MachinePlays.Settles.{at_once, by_work}
 use Rattle.dup_model.specs.Needs.{changed}
 use Rattle.dup_model.specs.Nodes.{node_made, requested, with_node}
@@ -173,7 +173,7 @@ module _ (site : Parts) (limits : Limits) where
       by_version v (Some i) is = ap (λ (cs : List Commit). target_at site cs i) is
 
   -- what a settle comes to, before it publishes, and what it publishes
-  record Comes_to (w : World) (events : List Event) (counts : Counts) : Type 0 where
+  record Outcome (w : World) (events : List Event) (counts : Counts) : Type 0 where
     pub before : World
     pub commits : before.commits ≡ w.commits
     pub target : before.target ≡ Some (length w.commits)
@@ -187,7 +187,7 @@ module _ (site : Parts) (limits : Limits) where
     pub counted : counts ≡ counts_of (target_content site w.commits w.target) (content site w.commits) (length w.commits)
 
   module _ (earlier : EmbedsEarlier (start site)) where
-    settle_comes : (w : World) (events : List Event) (counts : Counts) → IsReady w → Settles site limits w events counts → Comes_to w events counts
+    settle_comes : (w : World) (events : List Event) (counts : Counts) → IsReady w → Settles site limits w events counts → Outcome w events counts
     settle_comes w _ _ r (by_work k m n counts report last) = elim (target_case w.target (length w.commits)) [
       | inl new ↦ absurd (none_reported site limits w earlier r.idle r.slot k m counts new report)
       | inr other ↦
@@ -239,8 +239,8 @@ module _ (site : Parts) (limits : Limits) where
     settles_same : (w x : World) (a b : List Event) (counts found : Counts) → Alike w x → IsReady w → IsReady x → Settles site limits w a counts → Settles site limits x b found
         → (counts ≡ found) × Alike (fold (step site limits) w a) (fold (step site limits) x b) × IsReady (fold (step site limits) w a) × IsReady (fold (step site limits) x b)
     settles_same w x a b counts found alike r q one two =
-        let h : Comes_to w a counts = settle_comes w a counts r one in
-        let k : Comes_to x b found = settle_comes x b found q two in
+        let h : Outcome w a counts = settle_comes w a counts r one in
+        let k : Outcome x b found = settle_comes x b found q two in
         let before : Alike h.before k.before = record {
           commits = h.commits ∙ alike.commits ∙ sym k.commits;
           target = h.target ∙ ap (λ (cs : List Commit). Some (length cs)) alike.commits ∙ sym k.target;
@@ -447,15 +447,19 @@ module _ (site : Parts) (limits : Limits) where
         let rest : (out : Word) × MachinePlays site limits (before ++ t.0) (number + 1) cs last out = plays_from cs (before ++ t.0) (number + 1) last next in
         (t.1.0 ++ rest.0, (t.0, (t.1.0, (rest.0, t.1.1, refl, rest.1))))
 
-first_ready : IsReady first_world
-first_ready = record { idle = refl; slot = fin.get-empty nat_cmp 0 }
+pub starts_ready : StartsReady
+starts_ready = record { idle = refl; slot = fin.get-empty nat_cmp 0 }
 
 pub plays_exist : PlaysExist
-plays_exist site limits number commands last earlier = plays_from site limits earlier commands [] number last first_ready
+plays_exist site limits number commands last earlier = plays_from site limits earlier commands [] number last starts_ready
 
 pub plays_are_one : PlaysAreOne
 plays_are_one site limits number commands last a b earlier one two =
-    plays_same site limits earlier commands [] [] number last a b (alike_itself first_world) first_ready first_ready one two
+    plays_same site limits earlier commands [] [] number last a b (alike_itself first_world) starts_ready starts_ready one two
+
+pub commands_leave_ready : CommandsLeaveReady
+commands_leave_ready site limits w number command events out earlier r stands =
+    (turn_same site limits earlier w w number command events events out out (alike_itself w) r r stands stands).ready
 
 -- what publishing leaves as it is
 module _ (site : Parts) (limits : Limits) where
@@ -478,7 +482,7 @@ module _ (site : Parts) (limits : Limits) where
 
 pub settles_leave_nothing : SettlesLeaveNothing
 settles_leave_nothing site limits w events counts earlier r settles =
-    let h : Comes_to site limits w events counts = settle_comes site limits earlier w events counts r settles in
+    let h : Outcome site limits w events counts = settle_comes site limits earlier w events counts r settles in
     let keeps = publishes_keep site limits h.count h.before in
     let ready : IsReady (fold (step site limits) h.before (publishes h.count)) = publishes_ready site limits h.count h.before h.ready in
     let made : (fold (step site limits) h.before (publishes h.count)).target ≡ Some (length (fold (step site limits) h.before (publishes h.count)).commits) =

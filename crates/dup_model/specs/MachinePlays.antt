@@ -14,7 +14,7 @@ use Rattle.dup_model.specs.Settle.{publishes, settling}
 use Rattle.dup_model.specs.Status.{NothingPending}
 use Rattle.dup_model.specs.Texts.{not_built_text, settled_text, told_text}
 use Rattle.dup_model.specs.Versions.{content}
-use Rattle.dup_model.specs.World.{Counts, Event, Told, World}
+use Rattle.dup_model.specs.World.{Counts, Event, Told, World, first_world}
 use Rattle.dup_model.specs.World.Begun.{Nothing}
 use Rattle.dup_model.specs.World.Ended.{Report}
 use Rattle.dup_model.specs.World.Event.{Begin, Comes, Node, Request}
@@ -69,6 +69,15 @@ limits_for commands = record { rows = usual_limits.rows; commits = length comman
 pub record IsReady (w : World) : Type 0 where
   pub idle : w.work ≡ None
   pub slot : fin.get w.slots 0 ≡ None
+
+-- so it is before the first command
+abbrev pub StartsReady : Type 0
+StartsReady = IsReady first_world
+
+-- and after each
+abbrev pub CommandsLeaveReady : Type 0
+CommandsLeaveReady = (site : Parts) (limits : Limits) (w : World) (number : ℕ) (command : Command) (events : List Event) (out : Word) → EmbedsEarlier (start site) → IsReady w →
+    StandsFor site limits w number command events out → IsReady (fold (step site limits) w events)
 
 -- each list of commands is answered by the machine, and in one way
 abbrev pub PlaysExist : Type 0

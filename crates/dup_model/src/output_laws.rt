@@ -1,6 +1,12 @@
 //! What is read of an input, and what is written for it.
 ghost use Rattle.dup_model.specs.CommandTable.{EachIsRead};
-ghost use Rattle.dup_model.specs.MachinePlays.{PlaysAreOne, PlaysExist, SettlesLeaveNothing};
+ghost use Rattle.dup_model.specs.MachinePlays.{
+  CommandsLeaveReady,
+  PlaysAreOne,
+  PlaysExist,
+  SettlesLeaveNothing,
+  StartsReady,
+};
 ghost use Rattle.dup_model.specs.Numbers.{NumbersAreDecimal};
 ghost use Rattle.dup_model.specs.RowCounts.{RowsAreCounted};
 ghost use Rattle.dup_model.specs.RowPages.{RowsHavePages};
@@ -30,10 +36,12 @@ pub fn transcripts_law()
     ensures one { TranscriptsAreOne }
 {}
 
-/// The machine answers each list of commands, and in one way; and once settled, nothing is pending.
+/// The machine answers each list of commands, and in one way. No work is open between two commands, and once settled, nothing is pending.
 pub fn plays_law()
     ensures exist { PlaysExist }
     ensures one { PlaysAreOne }
+    ensures starts { StartsReady }
+    ensures ready { CommandsLeaveReady }
     ensures settled { SettlesLeaveNothing }
 {}
 

@@ -1,4 +1,4 @@
-use Rattle.dup_model.proofs.MachineAnswers.{plays_are_one, plays_exist, settles_leave_nothing}
+use Rattle.dup_model.proofs.MachineAnswers.{commands_leave_ready, plays_are_one, plays_exist, settles_leave_nothing, starts_ready}
 use Rattle.dup_model.proofs.output_laws.plays_law.Goals as goal
 
 pub returns-clause-exist : goal.returns-clause-exist
@@ -9,3 +9,9 @@ returns-clause-one c = plays_are_one
 
 pub returns-clause-settled : goal.returns-clause-settled
 returns-clause-settled c = settles_leave_nothing
+
+pub returns-clause-starts : goal.returns-clause-starts
+returns-clause-starts c = starts_ready
+
+pub returns-clause-ready : goal.returns-clause-ready
+returns-clause-ready c = commands_leave_ready
