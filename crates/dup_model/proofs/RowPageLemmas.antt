@@ -1,5 +1,5 @@
 -- The pages of a site of the first form.
-use Rattle.std.proofs.Common.{◌≡◌, ℕ, zero, suc, ◌<◌, Bool, true, false, ◌&&◌, refl, sym, ap, ◌∙◌, subst, List, [], ◌∷◌, ◌++◌, map, append-nil}
+use Rattle.std.proofs.Common.{◌≡◌, zero, suc, ◌<◌, Bool, true, false, ◌&&◌, refl, sym, ap, ◌∙◌, subst, List, [], ◌∷◌, ◌++◌, map, append-nil}
 use Rattle.std.specs.Prelude.{Option, Some, None, is_some}
 use Rattle.std.specs.List.{flat_map, list_all, AllByRecursion, slice_get}
 use Rattle.std.specs.Option.{unwrap_or}
@@ -32,7 +32,7 @@ use Rattle.dup_model.specs.Skeletons.{goes, goes_by, embeds}
 use Rattle.dup_model.specs.Tables.{IsRising}
 use Rattle.dup_model.proofs.Equations.{marks-Say, marks-Field}
 use Rattle.dup_model.proofs.Induction.{by_forms}
-use Rattle.dup_model.specs.FirstForm.{is_simple, is_family_of, is_kind, is_kind_with, is_first_form}
+use Rattle.dup_model.specs.FirstForm.{is_simple, is_kind, is_kind_with, is_first_form}
 use Rattle.dup_model.specs.RowPages.{HasRowPages, RowsHavePages, plain_look, prefix_in, row_object, row_page, row_path}
 use Rattle.dup_template.specs.Paths.{path_at}
 use Rattle.dup_model.proofs.SameWords.{same_back}
@@ -167,22 +167,35 @@ rising_table (t ∷ ts) h = h.0
 abbrev content_of : Parts → List Table → Content
 content_of site tables = record { frame = frame_of site; bodies = bodies_of site; tables = tables }
 
-from_lists : (kinds : List KindPart) (templates : List TemplatePart) (rules : List PageRule) (tables : List Table) → is_kind_with kinds templates rules ≡ true
-    → AllByRecursion IsRising tables
-    → HasRowPages (record { kinds = kinds; templates = templates; pages = rules }) (content_of (record { kinds = kinds; templates = templates; pages = rules }) tables)
-from_lists [] templates rules tables is rise = absurd (cc)
-from_lists (k ∷ l ∷ kinds) templates rules tables is rise = absurd (cc)
-from_lists (k ∷ []) [] rules tables is rise = absurd (cc)
-from_lists (k ∷ []) (t ∷ u ∷ templates) rules tables is rise = absurd (cc)
-from_lists (k ∷ []) (t ∷ []) [] tables is rise = absurd (let h = both (is_kind k.name t.kind && list_all is_simple t.body) false is in let e : false ≡ true = h.1 in cc)
-from_lists (k ∷ []) (t ∷ []) (Fixed path name ∷ rules) tables is rise = absurd (let h = both (is_kind k.name t.kind && list_all is_simple t.body) false is in let e : false ≡ true = h.1 in cc)
-from_lists (k ∷ []) (t ∷ []) (Family prefix name ∷ r ∷ rules) tables is rise = absurd (let h = both (is_kind k.name t.kind && list_all is_simple t.body) false is in let e : false ≡ true = h.1 in cc)
-from_lists (k ∷ []) (t ∷ []) (Family prefix name ∷ []) tables is rise =
+-- what holds of one kind, one simple template of it and one family of that template holds of each site of the first form
+by_form : (P : List KindPart → List TemplatePart → List PageRule → Type 0)
+    → ((k : KindPart) (t : TemplatePart) (prefix name of : Word) → same t.name name ≡ true → t.kind ≡ Some of → same k.name of ≡ true → list_all is_simple t.body ≡ true
+    → P (k ∷ []) (t ∷ []) (Family prefix name ∷ []))
+    → (kinds : List KindPart) (templates : List TemplatePart) (rules : List PageRule) → is_kind_with kinds templates rules ≡ true → P kinds templates rules
+by_form P holds [] templates rules is = absurd (cc)
+by_form P holds (k ∷ l ∷ kinds) templates rules is = absurd (cc)
+by_form P holds (k ∷ []) [] rules is = absurd (cc)
+by_form P holds (k ∷ []) (t ∷ u ∷ templates) rules is = absurd (cc)
+by_form P holds (k ∷ []) (t ∷ []) [] is = absurd (let h = both (is_kind k.name t.kind && list_all is_simple t.body) false is in let e : false ≡ true = h.1 in cc)
+by_form P holds (k ∷ []) (t ∷ []) (Fixed path name ∷ rules) is = absurd (let h = both (is_kind k.name t.kind && list_all is_simple t.body) false is in let e : false ≡ true = h.1 in cc)
+by_form P holds (k ∷ []) (t ∷ []) (Family prefix name ∷ r ∷ rules) is = absurd (let h = both (is_kind k.name t.kind && list_all is_simple t.body) false is in let e : false ≡ true = h.1 in cc)
+by_form P holds (k ∷ []) (t ∷ []) (Family prefix name ∷ []) is =
     let h = both (is_kind k.name t.kind && list_all is_simple t.body) (same t.name name) is in
     let g = both (is_kind k.name t.kind) (list_all is_simple t.body) h.0 in
     let of = of_kind k.name t.kind g.0 in
-    rows_have_pages k (record { name = t.name; kind = t.kind }) prefix name of.0 (t.body ∷ []) tables h.1 of.1 of.2
-    (record { kinds = k ∷ []; templates = t ∷ []; pages = Family prefix name ∷ [] }) refl g.1 (rising_table tables rise)
+    holds k t prefix name of.0 h.1 of.1 of.2 g.1
+
+abbrev parts : List KindPart → List TemplatePart → List PageRule → Parts
+parts kinds templates rules = record { kinds = kinds; templates = templates; pages = rules }
+
+from_lists : (kinds : List KindPart) (templates : List TemplatePart) (rules : List PageRule) (tables : List Table) → is_kind_with kinds templates rules ≡ true
+    → AllByRecursion IsRising tables → HasRowPages (parts kinds templates rules) (content_of (parts kinds templates rules) tables)
+from_lists kinds templates rules tables is rise =
+    by_form (λ kinds templates rules. HasRowPages (parts kinds templates rules) (content_of (parts kinds templates rules) tables))
+    (λ k t prefix name of named kind known simple.
+    rows_have_pages k (record { name = t.name; kind = t.kind }) prefix name of (t.body ∷ []) tables named kind known
+    (parts (k ∷ []) (t ∷ []) (Family prefix name ∷ [])) refl simple (rising_table tables rise))
+    kinds templates rules is
 
 pub row_pages : RowsHavePages
 row_pages site c form is rise =
@@ -196,23 +209,15 @@ pub record OneObject (c : Content) : Type 0 where
   pub job : (key : Word) → IsJob c.frame (row_object key)
 
 one_from : (kinds : List KindPart) (templates : List TemplatePart) (rules : List PageRule) (tables : List Table) → is_kind_with kinds templates rules ≡ true
-    → OneObject (content_of (record { kinds = kinds; templates = templates; pages = rules }) tables)
-one_from [] templates rules tables is = absurd (cc)
-one_from (k ∷ l ∷ kinds) templates rules tables is = absurd (cc)
-one_from (k ∷ []) [] rules tables is = absurd (cc)
-one_from (k ∷ []) (t ∷ u ∷ templates) rules tables is = absurd (cc)
-one_from (k ∷ []) (t ∷ []) [] tables is = absurd (let h = both (is_kind k.name t.kind && list_all is_simple t.body) false is in let e : false ≡ true = h.1 in cc)
-one_from (k ∷ []) (t ∷ []) (Fixed path name ∷ rules) tables is = absurd (let h = both (is_kind k.name t.kind && list_all is_simple t.body) false is in let e : false ≡ true = h.1 in cc)
-one_from (k ∷ []) (t ∷ []) (Family prefix name ∷ r ∷ rules) tables is = absurd (let h = both (is_kind k.name t.kind && list_all is_simple t.body) false is in let e : false ≡ true = h.1 in cc)
-one_from (k ∷ []) (t ∷ []) (Family prefix name ∷ []) tables is =
-    let h = both (is_kind k.name t.kind && list_all is_simple t.body) (same t.name name) is in
-    let g = both (is_kind k.name t.kind) (list_all is_simple t.body) h.0 in
-    let of = of_kind k.name t.kind g.0 in
-    record {
-      here = here_formed k (record { name = t.name; kind = t.kind }) prefix name of.0 (t.body ∷ []) tables h.1 of.1 of.2;
-      uses = uses_formed k (record { name = t.name; kind = t.kind }) prefix name of.0 (t.body ∷ []) tables h.1 of.1 of.2;
-      job = job_formed k (record { name = t.name; kind = t.kind }) prefix name of.0 (t.body ∷ []) tables h.1 of.1 of.2;
-    }
+    → OneObject (content_of (parts kinds templates rules) tables)
+one_from kinds templates rules tables is =
+    by_form (λ kinds templates rules. OneObject (content_of (parts kinds templates rules) tables))
+    (λ k t prefix name of named kind known simple. record {
+      here = here_formed k (record { name = t.name; kind = t.kind }) prefix name of (t.body ∷ []) tables named kind known;
+      uses = uses_formed k (record { name = t.name; kind = t.kind }) prefix name of (t.body ∷ []) tables named kind known;
+      job = job_formed k (record { name = t.name; kind = t.kind }) prefix name of (t.body ∷ []) tables named kind known;
+    })
+    kinds templates rules is
 
 pub one_object : (site : Parts) (c : Content) → is_first_form site ≡ true → IsOf site c → OneObject c
 one_object site c form is =
@@ -224,18 +229,11 @@ row_job site c key o form is same = subst (IsJob c.frame) (sym same) ((one_objec
 
 -- the path of a row's object
 path_from : (kinds : List KindPart) (templates : List TemplatePart) (rules : List PageRule) (key : Word) → is_kind_with kinds templates rules ≡ true
-    → path_at (record { kinds = kinds; templates = templates; pages = rules }) (row_object key) ≡ Some (prefix_in rules ++ 47 ∷ key)
-path_from [] templates rules key is = absurd (cc)
-path_from (k ∷ l ∷ kinds) templates rules key is = absurd (cc)
-path_from (k ∷ []) [] rules key is = absurd (cc)
-path_from (k ∷ []) (t ∷ u ∷ templates) rules key is = absurd (cc)
-path_from (k ∷ []) (t ∷ []) [] key is = absurd (let h = both (is_kind k.name t.kind && list_all is_simple t.body) false is in let e : false ≡ true = h.1 in cc)
-path_from (k ∷ []) (t ∷ []) (Fixed path name ∷ rules) key is = absurd (let h = both (is_kind k.name t.kind && list_all is_simple t.body) false is in let e : false ≡ true = h.1 in cc)
-path_from (k ∷ []) (t ∷ []) (Family prefix name ∷ r ∷ rules) key is = absurd (let h = both (is_kind k.name t.kind && list_all is_simple t.body) false is in let e : false ≡ true = h.1 in cc)
-path_from (k ∷ []) (t ∷ []) (Family prefix name ∷ []) key is =
-    let h = both (is_kind k.name t.kind && list_all is_simple t.body) (same t.name name) is in
-    let e : same name t.name ≡ true = same_back name t.name ∙ h.1 in
-    rw e refl
+    → path_at (parts kinds templates rules) (row_object key) ≡ Some (prefix_in rules ++ 47 ∷ key)
+path_from kinds templates rules key is =
+    by_form (λ kinds templates rules. path_at (parts kinds templates rules) (row_object key) ≡ Some (prefix_in rules ++ 47 ∷ key))
+    (λ k t prefix name of named kind known simple. let e : same name t.name ≡ true = same_back name t.name ∙ named in rw e refl)
+    kinds templates rules is
 
 pub path_formed : (site : Parts) (key : Word) → is_first_form site ≡ true → path_at site (row_object key) ≡ Some (row_path site key)
 path_formed site key form = path_from site.kinds site.templates site.pages key form
@@ -247,23 +245,14 @@ body_embeds (x ∷ xs) simple =
     let h = both (is_simple x) (list_all is_simple xs) simple in
     ap (λ (l : List Word). l ++ flat_map embedded xs) (embeds_nothing x h.0) ∙ body_embeds xs h.1
 
-earlier_from : (kinds : List KindPart) (templates : List TemplatePart) (rules : List PageRule) → is_kind_with kinds templates rules ≡ true
-    → EmbedsEarlier (start (record { kinds = kinds; templates = templates; pages = rules }))
-earlier_from [] templates rules is = absurd (cc)
-earlier_from (k ∷ l ∷ kinds) templates rules is = absurd (cc)
-earlier_from (k ∷ []) [] rules is = absurd (cc)
-earlier_from (k ∷ []) (t ∷ u ∷ templates) rules is = absurd (cc)
-earlier_from (k ∷ []) (t ∷ []) rules is = λ n. by_number n
+earlier_from : (kinds : List KindPart) (templates : List TemplatePart) (rules : List PageRule) → is_kind_with kinds templates rules ≡ true → EmbedsEarlier (start (parts kinds templates rules))
+earlier_from kinds templates rules is =
+    by_form (λ kinds templates rules. EmbedsEarlier (start (parts kinds templates rules))) (λ k t prefix name of named kind known simple. one_body k t (Family prefix name ∷ []) simple) kinds templates rules is
   where
-    simple : list_all is_simple t.body ≡ true
-    simple = (both (is_kind k.name t.kind) (list_all is_simple t.body) (both (is_kind k.name t.kind && list_all is_simple t.body) (is_family_of t.name rules) is).0).1
-
-    none : (c : Content) (n : ℕ) → AllByRecursion (λ name. template_at c.frame name < n) (flat_map embedded t.body)
-    none c n = subst (AllByRecursion (λ name. template_at c.frame name < n)) (sym (body_embeds t.body simple)) tt
-
-    by_number : EmbedsEarlier (start (record { kinds = k ∷ []; templates = t ∷ []; pages = rules }))
-    by_number zero = none (start (record { kinds = k ∷ []; templates = t ∷ []; pages = rules })) zero
-    by_number (suc n) = tt
+    one_body : (k : KindPart) (t : TemplatePart) (rules : List PageRule) → list_all is_simple t.body ≡ true → EmbedsEarlier (start (parts (k ∷ []) (t ∷ []) rules))
+    one_body k t rules simple zero =
+        subst (AllByRecursion (λ name. template_at (start (parts (k ∷ []) (t ∷ []) rules)).frame name < zero)) (sym (body_embeds t.body simple)) tt
+    one_body k t rules simple (suc n) = tt
 
 pub embeds_earlier : (site : Parts) → is_first_form site ≡ true → EmbedsEarlier (start site)
 embeds_earlier site form = earlier_from site.kinds site.templates site.pages form
