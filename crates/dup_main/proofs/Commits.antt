@@ -22,10 +22,10 @@ use Rattle.dup_model.specs.Content.{start}
 use Rattle.dup_model.specs.Commits.{Commit, Refusal, edited, after, refusal, put_row, put_row_at}
 use Rattle.dup_model.specs.Journal.{unless_refused}
 use Rattle.dup_model.specs.Versions.{content, version}
-use Rattle.dup_model.specs.declared.command.Command.TheVariants as command
+use Rattle.dup_transcript.specs.declared.command.Command.TheVariants as command
 use Rattle.dup_main.specs.declared.session.Session.{Session as Kept}
 use Rattle.dup_main.specs.Kept.{Acts, IsMade, IsReady, Keeps}
-use Rattle.dup_model.specs.Sessions.{commit_text}
+use Rattle.dup_transcript.specs.Sessions.{commit_text}
 use Rattle.dup_names.specs.Lines.{line}
 
 edited_is_of : (site : Parts) (c : Content) (e : Edit) → IsOf site c → IsOf site (edited c e)

@@ -9,7 +9,7 @@ use Rattle.dup_main.specs.declared.stop.Stop.{Stop}
 use Rattle.dup_main.specs.declared.stop.Stop.TheVariants as stops
 use Rattle.dup_main.specs.LineStops.{stop_of}
 use Rattle.dup_main.specs.Stops.{StopsInScript}
-use Rattle.dup_model.specs.Transcript.{ending, too_long_line, too_long_input}
+use Rattle.dup_transcript.specs.Transcript.{ending, too_long_line, too_long_input}
 use Rattle.dup_main.proofs.SiteSoFar.{IsDue}
 
 -- of the lines some were answered by done: it is all that may be written before the line on what is too long

@@ -11,9 +11,9 @@ use Rattle.dup_names.specs.Order.{text_cmp}
 use Rattle.dup_names.specs.Words.{Path}
 use Rattle.dup_model.specs.Editions.{Page}
 use Rattle.dup_model.specs.Touched.{same_obj}
-use Rattle.dup_model.specs.Sessions.{Published, with_page, shows}
+use Rattle.dup_transcript.specs.Sessions.{Published, with_page, shows}
 use Rattle.dup_main.specs.Kept.{KeepsPages, has_same, page_of}
-use Rattle.dup_model.specs.RowPages.{plain_look}
+use Rattle.dup_transcript.specs.RowPages.{plain_look}
 use Rattle.dup_main.specs.declared.edition.Edition.{Edition as KeptEdition}
 use Rattle.dup_main.specs.declared.edition.Rendered.{Rendered}
 

@@ -7,7 +7,7 @@ use Rattle.std.proofs.lemmas.List.{drop_all}
 use Rattle.std.proofs.lemmas.Bool.Decides.{nat_tests}
 use Rattle.dup_names.specs.Words.{Word}
 use Rattle.dup_names.specs.Grammar.{is_digit}
-use Rattle.dup_model.specs.Numbers.{leads, value_behind, number_of}
+use Rattle.dup_transcript.specs.Numbers.{leads, value_behind, number_of}
 
 pub value_grows : (a : ℕ) (w : Word) → a ≤ value_behind a w
 value_grows a [] = omega arith

@@ -15,8 +15,8 @@ use Rattle.dup_model.specs.Content.{Content, start}
 use Rattle.dup_model.specs.Jobs.{IsJob, JobsFit}
 use Rattle.dup_model.specs.Pages.{pages}
 use Rattle.dup_site.specs.Reads.{if_said, site_says, unless_broken}
-use Rattle.dup_model.specs.BadSites.{or_cause}
-use Rattle.dup_model.specs.RenderedPages.{rendered_page}
+use Rattle.dup_transcript.specs.BadSites.{or_cause}
+use Rattle.dup_transcript.specs.RenderedPages.{rendered_page}
 use Rattle.dup_model.proofs.GoodSites.{good_jobs_fit}
 use Rattle.dup_model.proofs.Jobs.{pages_are_jobs}
 

@@ -6,10 +6,10 @@ use Rattle.dup_names.specs.Words.{Word}
 use Rattle.dup_names.specs.declared.object.Obj.{Obj}
 use Rattle.dup_template.specs.declared.site.Parts.{Parts}
 use Rattle.dup_model.specs.Content.{Content, Table, Entry}
-use Rattle.dup_model.specs.RowPages.{plain_look, row_object, row_page, row_path}
+use Rattle.dup_transcript.specs.RowPages.{plain_look, row_object, row_page, row_path}
 use Rattle.dup_model.specs.Show.{show}
-use Rattle.dup_model.proofs.SettledPages.{pages_from}
-use Rattle.dup_model.specs.Sessions.{Published, with_pages, with_page}
+use Rattle.dup_transcript.proofs.SettledPages.{pages_from}
+use Rattle.dup_transcript.specs.Sessions.{Published, with_pages, with_page}
 
 pub page_is : (site : Parts) (c : Content) (key path bytes : Word) (o : Obj) → path ≡ row_path site key → o ≡ row_object key → bytes ≡ show c o
     → (path, plain_look o bytes) ≡ row_page site c key

@@ -8,11 +8,11 @@ use Rattle.dup_names.specs.LineWords.{line_words, trimmed}
 use Rattle.dup_names.specs.Words.{Word, same}
 use Rattle.dup_feed.specs.Feed.{feed_says}
 use Rattle.dup_feed.specs.declared.refusal.FeedRefusal.{FeedRefusal}
-use Rattle.dup_model.specs.Commands.{Command, by_message, by_start, by_words, get_command, is_capacity, is_node, is_one_put, message_of, mode_of, node_command}
-use Rattle.dup_model.specs.Numbers.{number_of}
-use Rattle.dup_model.specs.Sessions.{IsPutting}
-use Rattle.dup_model.specs.Transcript.{commands}
-use Rattle.dup_model.specs.declared.command.Command.TheVariants as command
+use Rattle.dup_transcript.specs.Commands.{Command, by_message, by_start, by_words, get_command, is_capacity, is_node, is_one_put, message_of, mode_of, node_command}
+use Rattle.dup_transcript.specs.Numbers.{number_of}
+use Rattle.dup_transcript.specs.Sessions.{IsPutting}
+use Rattle.dup_transcript.specs.Transcript.{commands}
+use Rattle.dup_transcript.specs.declared.command.Command.TheVariants as command
 use Rattle.dup_model.specs.declared.edit.Edit.{Edit}
 use Rattle.dup_model.specs.declared.mode.Mode.{Mode}
 use Rattle.dup_main.specs.Commands.{commit_command, message_command}

@@ -7,16 +7,16 @@ use Rattle.dup_names.specs.Lines.{Reading, Whole, Next}
 use Rattle.dup_io.specs.Readings.{GivesLine, IsReading}
 use Rattle.dup_names.specs.Words.{Word}
 use Rattle.dup_template.specs.declared.site.Parts.{Parts}
-use Rattle.dup_model.specs.Commands.{Command}
+use Rattle.dup_transcript.specs.Commands.{Command}
 use Rattle.dup_model.specs.Commits.{Commit}
 use Rattle.dup_model.specs.Content.{Content, start}
 use Rattle.dup_model.specs.Versions.{content}
 use Rattle.dup_main.specs.Commands.{command_of, message_command}
 use Rattle.dup_main.specs.Taken.{Takes}
-use Rattle.dup_model.specs.RenderedPages.{accepted, last_content, rendered_pages, render_answer, render_answers}
+use Rattle.dup_transcript.specs.RenderedPages.{accepted, last_content, rendered_pages, render_answer, render_answers}
 use Rattle.dup_main.specs.declared.stop.Stop.{Stop}
 use Rattle.dup_main.specs.Stops.{WritesScript}
-use Rattle.dup_model.specs.Transcript.{RendersLines, render_end, commands, ending, rendered}
+use Rattle.dup_transcript.specs.Transcript.{RendersLines, render_end, commands, ending, rendered}
 use Rattle.dup_main.proofs.CutScripts.{Reaches}
 
 -- of the lines, some were answered by done, and the rest goes on from these commits

@@ -5,7 +5,7 @@ use Rattle.dup_template.specs.declared.statement.Statement.TheVariants as s
 use Rattle.dup_model.specs.Content.{Content, text}
 use Rattle.dup_model.specs.Names.{fields_at}
 use Rattle.dup_model.proofs.Equations.{marks-Say, marks-Field}
-use Rattle.dup_model.specs.RowCounts.{is_read_anew}
+use Rattle.dup_transcript.specs.RowCounts.{is_read_anew}
 
 or_false : (v : Bool) → (v || false) ≡ v
 or_false true = refl

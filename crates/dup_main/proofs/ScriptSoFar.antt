@@ -7,13 +7,13 @@ use Rattle.dup_names.specs.Lines.{Reading, Whole, Next}
 use Rattle.dup_io.specs.Readings.{GivesLine, IsReading}
 use Rattle.dup_names.specs.Words.{Word}
 use Rattle.dup_template.specs.declared.site.Parts.{Parts}
-use Rattle.dup_model.specs.Commands.{Command}
+use Rattle.dup_transcript.specs.Commands.{Command}
 use Rattle.dup_main.specs.declared.session.Session.{Session as Kept}
 use Rattle.dup_main.specs.Commands.{command_of, message_command}
 use Rattle.dup_main.specs.Kept.{Keeps}
-use Rattle.dup_model.specs.Sessions.{Writes, Session, first_session, after_command, play_answer}
+use Rattle.dup_transcript.specs.Sessions.{Writes, Session, first_session, after_command, play_answer}
 use Rattle.dup_main.specs.Stops.{WritesScript}
-use Rattle.dup_model.specs.Transcript.{ending}
+use Rattle.dup_transcript.specs.Transcript.{ending}
 use Rattle.dup_main.proofs.CutScripts.{Reaches}
 
 -- of a script, some lines were answered by done, and the rest goes on from a session

@@ -16,20 +16,20 @@ use Rattle.dup_model.specs.Pages.{live}
 use Rattle.dup_model.specs.Tables.{TablesRise}
 use Rattle.dup_model.specs.Touched.{expanded, joined, is_in, without}
 use Rattle.dup_model.specs.Versions.{content, version, target_content}
-use Rattle.dup_model.specs.Works.{more}
+use Rattle.dup_machine.specs.Works.{more}
 use Rattle.dup_model.proofs.Histories.{content_of}
 use Rattle.dup_model.proofs.Tables.{versions_rise}
-use Rattle.dup_model.specs.declared.command.Command.TheVariants as command
+use Rattle.dup_transcript.specs.declared.command.Command.TheVariants as command
 use Rattle.dup_main.specs.declared.edition.Edition.{Edition as KeptEdition}
 use Rattle.dup_main.specs.declared.edition.Rendered.{Rendered}
 use Rattle.dup_main.specs.declared.session.Session.{Session as Kept}
 use Rattle.dup_main.specs.Kept.{Acts, IsReady, KeepsPages, page_of}
-use Rattle.dup_model.specs.RowCounts.{CountsRows, IsSettledOf, renewed_count}
-use Rattle.dup_model.specs.RowPages.{HasRowPages, row_page}
-use Rattle.dup_model.specs.Sessions.{Published, with_pages, settled_edition, whole_site, has_node}
-use Rattle.dup_model.specs.Texts.{found_text, settled_text}
-use Rattle.dup_model.proofs.RowCountLemmas.{rows_counted}
-use Rattle.dup_model.proofs.RowPageLemmas.{row_pages}
+use Rattle.dup_transcript.specs.RowCounts.{CountsRows, IsSettledOf, renewed_count}
+use Rattle.dup_transcript.specs.RowPages.{HasRowPages, row_page}
+use Rattle.dup_transcript.specs.Sessions.{Published, with_pages, settled_edition, whole_site, has_node}
+use Rattle.dup_transcript.specs.Texts.{found_text, settled_text}
+use Rattle.dup_transcript.proofs.RowCountLemmas.{rows_counted}
+use Rattle.dup_transcript.proofs.RowPageLemmas.{row_pages}
 
 pub found_acts : (r : Kept) (node pass : ℕ) (path : Path) (page : Rendered) (text : Word) → list_any (nat_eq node) r.nodes.items ≡ true → pass ≤ r.edition.number
     → tree.get text_cmp r.edition.pages path ≡ Some page → text ≡ found_text r.edition.number (page_of path page) → Acts r r 0 (command.Get node pass path) text

@@ -11,8 +11,8 @@ use Rattle.dup_main.specs.declared.stop.Stop.{Stop}
 use Rattle.dup_main.specs.declared.stop.Stop.TheVariants as stops
 use Rattle.dup_names.specs.Lines.{line}
 use Rattle.dup_main.specs.Stops.{IsSiteText, ReadsSite, CountsSite, StopsInSite}
-use Rattle.dup_model.specs.Inputs.{is_end, site_text, site_lines, script, site_is_read}
-use Rattle.dup_model.specs.Transcript.{ending, too_long}
+use Rattle.dup_transcript.specs.Inputs.{is_end, site_text, site_lines, script, site_is_read}
+use Rattle.dup_transcript.specs.Transcript.{ending, too_long}
 
 -- of a reading, this text was read, and the rest is left; from a number of lines to a number of lines
 pub record IsSoFar (all rest : Reading) (text : Word) (before now : ℕ) : Type 0 where

@@ -11,16 +11,17 @@ use Rattle.dup_template.specs.declared.site.Parts.{Parts}
 use Rattle.dup_main.specs.declared.stop.Stop.{Stop}
 use Rattle.dup_main.specs.declared.stop.Stop.TheVariants as stops
 use Rattle.dup_main.specs.Commands.{message_command}
-use Rattle.dup_model.specs.BadSites.{bad_site_text, not_built_site, or_cause}
-use Rattle.dup_model.specs.Sessions.{Writes, first_session}
+use Rattle.dup_transcript.specs.BadSites.{bad_site_text, or_cause}
+use Rattle.dup_transcript.specs.FirstForm.{not_built_site}
+use Rattle.dup_transcript.specs.Sessions.{Writes, first_session}
 use Rattle.dup_main.specs.Stops.{IsSiteText, ReadsSite, CountsSite, WritesScript, StopsInScript, StopsAt, BarsSite, stop_text}
-use Rattle.dup_model.specs.Transcript.{commands, too_long, RendersLines, Does, DoesSite, DoesRead, IsTranscript, ending, site_for, site_ok}
+use Rattle.dup_transcript.specs.Transcript.{commands, too_long, RendersLines, Does, DoesSite, DoesRead, IsTranscript, ending, site_for, site_ok}
 use Rattle.dup_main.specs.Transcript.{WritesTranscript, grammars}
-use Rattle.dup_model.specs.Inputs.{site_text, site_lines, script}
-use Rattle.dup_model.specs.declared.task.Task.{Task}
-use Rattle.dup_model.specs.declared.task.Task.TheVariants as tasks
-use Rattle.dup_model.proofs.MachineScripts.{sessions_are_the_machines}
-use Rattle.dup_model.proofs.Transcripts.{played_form}
+use Rattle.dup_transcript.specs.Inputs.{site_text, site_lines, script}
+use Rattle.dup_transcript.specs.declared.task.Task.{Task}
+use Rattle.dup_transcript.specs.declared.task.Task.TheVariants as tasks
+use Rattle.dup_transcript.proofs.MachineScripts.{sessions_are_the_machines}
+use Rattle.dup_transcript.proofs.Transcripts.{played_form}
 use Rattle.dup_main.proofs.Puts.{lines_put}
 
 -- what is read of an input from its first byte

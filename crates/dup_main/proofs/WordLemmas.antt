@@ -1,9 +1,9 @@
 -- The words of a line, by their number.
 use Rattle.std.proofs.Common.{◌≡◌, ◌≢◌, ℕ, List, [], ◌∷◌, refl, length, get_or, arith}
 use Rattle.std.specs.Borrow.{Bor}
-use Rattle.dup_model.specs.declared.command.Command.TheVariants.{NotBuilt}
+use Rattle.dup_transcript.specs.declared.command.Command.TheVariants.{NotBuilt}
 use Rattle.dup_main.specs.Commands.{seen}
-use Rattle.dup_model.specs.Commands.{by_words, one_word, four_words}
+use Rattle.dup_transcript.specs.Commands.{by_words, one_word, four_words}
 
 pub at_one : (ws : List (Bor (List ℕ))) (d : Bor (List ℕ)) → length ws ≡ 1 → one_word (get_or ws 0 d).now ≡ by_words (seen ws)
 at_one [] d size = absurd (omega arith)

@@ -4,9 +4,9 @@ use Rattle.std.specs.Borrow.{Bor}
 use Rattle.dup_names.specs.Words.{Word}
 use Rattle.dup_feed.specs.Feed.{feed_says}
 use Rattle.dup_feed.specs.declared.refusal.FeedRefusal.{FeedRefusal}
-use Rattle.dup_model.specs.Commands.{Command, line_command, of_commit}
+use Rattle.dup_transcript.specs.Commands.{Command, line_command, of_commit}
 use Rattle.dup_model.specs.Commits.{Commit}
-use Rattle.dup_model.specs.declared.command.Command.TheVariants.{NotBuilt}
+use Rattle.dup_transcript.specs.declared.command.Command.TheVariants.{NotBuilt}
 
 abbrev pub seen : List (Bor (List ℕ)) → List Word
 seen words = map (λ w. w.now) words

@@ -9,11 +9,11 @@ use Rattle.dup_names.specs.Words.{Word, Path}
 use Rattle.dup_model.specs.Versions.{content, target_content}
 use Rattle.dup_model.specs.Editions.{Page}
 use Rattle.dup_model.specs.Content.{IsOf, table}
-use Rattle.dup_model.specs.FirstForm.{is_first_form}
-use Rattle.dup_model.specs.RowCounts.{IsSimple}
-use Rattle.dup_model.specs.RowPages.{plain_look}
-use Rattle.dup_model.specs.Sessions.{Session, Published, after_command, play_answer}
-use Rattle.dup_model.specs.Commands.{Command}
+use Rattle.dup_transcript.specs.FirstForm.{is_first_form}
+use Rattle.dup_transcript.specs.RowCounts.{IsSimple}
+use Rattle.dup_transcript.specs.RowPages.{plain_look}
+use Rattle.dup_transcript.specs.Sessions.{Session, Published, after_command, play_answer}
+use Rattle.dup_transcript.specs.Commands.{Command}
 use Rattle.dup_main.specs.declared.edition.Edition.{Edition as KeptEdition}
 use Rattle.dup_main.specs.declared.edition.Rendered.{Rendered}
 use Rattle.dup_main.specs.declared.session.Session.{Session as Kept}

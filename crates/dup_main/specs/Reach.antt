@@ -3,7 +3,7 @@ use Rattle.std.specs.Prelude.{◌≡◌, ◌≤◌, ℕ, ◌++◌, Option, Some,
 use Rattle.std.specs.Option.{option_map}
 use Rattle.dup_names.specs.Lines.{Reading, reading}
 use Rattle.dup_names.specs.Words.{Word}
-use Rattle.dup_model.specs.Inputs.{script}
+use Rattle.dup_transcript.specs.Inputs.{script}
 
 -- what a source has left stands behind the site text of a reading; but for a piece of at most 4,096 bytes it is all that does
 abbrev pub LeavesScript : Option Reading → Option Word → Type 0

@@ -6,11 +6,12 @@ use Rattle.dup_names.specs.Words.{Word}
 use Rattle.dup_template.specs.declared.site.Parts.{Parts}
 use Rattle.dup_main.specs.declared.stop.Stop.{Stop}
 use Rattle.dup_main.specs.declared.stop.Stop.TheVariants.{ReadFault, WriteFault, BadSite, NotBuilt, NoMemory, LineTooLong, InputTooLong}
-use Rattle.dup_model.specs.BadSites.{bad_site_text, not_built_site}
-use Rattle.dup_model.specs.declared.task.Task.{Task}
+use Rattle.dup_transcript.specs.BadSites.{bad_site_text}
+use Rattle.dup_transcript.specs.FirstForm.{not_built_site}
+use Rattle.dup_transcript.specs.declared.task.Task.{Task}
 use Rattle.dup_main.specs.Transcript.{grammars}
-use Rattle.dup_model.specs.Transcript.{IsTranscript, too_long_line, too_long_input, too_long, ending}
-use Rattle.dup_model.specs.Inputs.{site_text, site_lines, site_is_read, script}
+use Rattle.dup_transcript.specs.Transcript.{IsTranscript, too_long_line, too_long_input, too_long, ending}
+use Rattle.dup_transcript.specs.Inputs.{site_text, site_lines, site_is_read, script}
 
 -- a line or the input that is too long stands in the reading
 abbrev pub IsTooLong : Stop → Word → Type 0

@@ -2,10 +2,10 @@
 use Rattle.std.specs.Prelude.{◌≡◌, ℕ, List}
 use Rattle.dup_names.specs.Words.{Word}
 use Rattle.dup_template.specs.declared.site.Parts.{Parts}
-use Rattle.dup_model.specs.Commands.{Command}
+use Rattle.dup_transcript.specs.Commands.{Command}
 use Rattle.dup_model.specs.Commits.{Commit}
 use Rattle.dup_model.specs.Content.{Content}
-use Rattle.dup_model.specs.RenderedPages.{accepted, render_answer}
+use Rattle.dup_transcript.specs.RenderedPages.{accepted, render_answer}
 use Rattle.dup_model.specs.Versions.{content}
 
 -- the content after the command, and what the command is answered

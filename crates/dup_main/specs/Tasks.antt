@@ -2,8 +2,8 @@
 use Rattle.std.specs.Prelude.{List, [], ◌∷◌, codes, if◌then◌else◌, Option, Some, None, String, string_bytes}
 use Rattle.std.specs.declared.alloc.Global.{Global}
 use Rattle.dup_names.specs.Words.{Word, same}
-use Rattle.dup_model.specs.declared.task.Task.{Task}
-use Rattle.dup_model.specs.declared.task.Task.TheVariants.{Play, Check, Render}
+use Rattle.dup_transcript.specs.declared.task.Task.{Task}
+use Rattle.dup_transcript.specs.declared.task.Task.TheVariants.{Play, Check, Render}
 
 abbrev pub task_named : Word → Option Task
 task_named word =

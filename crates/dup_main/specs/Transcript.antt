@@ -5,8 +5,8 @@ use Rattle.dup_names.specs.Lines.{line, reading}
 use Rattle.dup_names.specs.Words.{Word}
 use Rattle.dup_site.specs.Reads.{site_says}
 use Rattle.dup_site.specs.Spelling.{written}
-use Rattle.dup_model.specs.Transcript.{Grammars, IsTranscript}
-use Rattle.dup_model.specs.declared.task.Task.{Task}
+use Rattle.dup_transcript.specs.Transcript.{Grammars, IsTranscript}
+use Rattle.dup_transcript.specs.declared.task.Task.{Task}
 use Rattle.dup_main.specs.Commands.{message_command}
 
 abbrev pub grammars : Grammars

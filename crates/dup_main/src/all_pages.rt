@@ -3,7 +3,7 @@ ghost use Rattle.std.specs.Prelude.{◌≡◌, ◌≢◌, ◌⊎◌, IfErr, IfOk
 ghost use Rattle.std.specs.Io.KnownBytes.{Appends};
 ghost use Rattle.dup_io.specs.Causes.{Rose};
 ghost use Rattle.dup_model.specs.Jobs.{IsJob, JobsFit};
-ghost use Rattle.dup_model.specs.RenderedPages.{rendered_page, rendered_pages};
+ghost use Rattle.dup_transcript.specs.RenderedPages.{rendered_page, rendered_pages};
 
 use crate::stop::Stop;
 use dup_io::{Sink, put_all};

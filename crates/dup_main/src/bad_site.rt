@@ -1,6 +1,6 @@
 ghost use Rattle.std.specs.Prelude.{◌≡◌, ◌++◌, IfOk, codes, string_bytes};
 ghost use Rattle.std.specs.Fmt.{decimal};
-ghost use Rattle.dup_model.specs.BadSites.{bad_site_text, what_word};
+ghost use Rattle.dup_transcript.specs.BadSites.{bad_site_text, what_word};
 ghost use Rattle.dup_names.specs.Lines.{line};
 
 use dup_names::NoMemory;

@@ -1,6 +1,6 @@
 ghost use Rattle.std.specs.Prelude.{◌≡◌, ◌≢◌, OnOk, IfErr, IsErrOf, Err};
 ghost use Rattle.dup_io.specs.Causes.{Rose};
-ghost use Rattle.dup_model.specs.declared.task.Task.TheVariants.{Check};
+ghost use Rattle.dup_transcript.specs.declared.task.Task.TheVariants.{Check};
 ghost use Rattle.dup_main.specs.Reach.{ReadsNoFurther};
 ghost use Rattle.dup_main.specs.Stops.{StopsAt};
 ghost use Rattle.dup_main.specs.Transcript.{WritesTranscript};

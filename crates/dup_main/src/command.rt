@@ -6,12 +6,13 @@ ghost use Rattle.dup_names.specs.LineWords.{is_space};
 ghost use Rattle.dup_template.specs.Good.{behind};
 ghost use Rattle.dup_names.specs.Words.{same};
 ghost use Rattle.dup_main.specs.Commands.{command_of, commit_command, message_command, seen};
-ghost use Rattle.dup_model.specs.Commands.{HasOneChange, by_message, by_start, by_words, four_words, get_command, if_more, is_one_put, is_put, message_of, mode_of, node_command, of_commit, one_word};
-ghost use Rattle.dup_model.specs.Numbers.{number_of};
+ghost use Rattle.dup_transcript.specs.Commands.{HasOneChange, by_message, by_start, by_words, four_words, get_command, if_more, is_one_put, is_put, message_of, mode_of, node_command, of_commit, one_word};
+ghost use Rattle.dup_transcript.specs.Numbers.{number_of};
 
 use crate::number::read_number;
 use dup_feed::{FeedRefusal, read_commit};
-use dup_model::{Command, Edit, Mode};
+use dup_model::{Edit, Mode};
+use dup_transcript::Command;
 use dup_names::{NoMemory, Path};
 use dup_records::{Change, Commit};
 use dup_site::{trimmed, words_of};

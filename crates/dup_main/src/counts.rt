@@ -2,8 +2,8 @@ ghost use Rattle.std.specs.Prelude.{◌≡◌, ◌≤◌, not, true, length};
 ghost use Rattle.std.specs.List.{list_all, list_any};
 ghost use Rattle.dup_names.specs.Words.{same};
 ghost use Rattle.dup_model.specs.Content.{body_at, table};
-ghost use Rattle.dup_model.specs.FirstForm.{is_simple};
-ghost use Rattle.dup_model.specs.RowCounts.{IsSimple, is_read_anew, is_renewed, renewed_count};
+ghost use Rattle.dup_transcript.specs.FirstForm.{is_simple};
+ghost use Rattle.dup_transcript.specs.RowCounts.{IsSimple, is_read_anew, is_renewed, renewed_count};
 
 use dup_names::Key;
 use dup_records::Content;

@@ -35,8 +35,8 @@ impl Rendered {
 
 impl Edition {
     ghost use Rattle.dup_main.specs.Kept.{KeepsPages, has_same};
-    ghost use Rattle.dup_model.specs.RowPages.{plain_look};
-    ghost use Rattle.dup_model.specs.Sessions.{Published, with_page};
+    ghost use Rattle.dup_transcript.specs.RowPages.{plain_look};
+    ghost use Rattle.dup_transcript.specs.Sessions.{Published, with_page};
 
     /// Edition 0, which has no pages.
     pub(crate) fn new(alloc: Global) -> Edition

@@ -1,8 +1,9 @@
 ghost use Rattle.std.specs.Prelude.{◌≡◌, Ok, IfOk, IfErr, true};
 ghost use Rattle.std.specs.List.{list_all};
-ghost use Rattle.dup_model.specs.BadSites.{or_cause, or_not_built};
+ghost use Rattle.dup_transcript.specs.BadSites.{or_cause};
+ghost use Rattle.dup_transcript.specs.FirstForm.{or_not_built};
 ghost use Rattle.dup_site.specs.Reads.{site_says};
-ghost use Rattle.dup_model.specs.FirstForm.{is_family_of, is_first_form, is_kind, is_simple, is_template_of};
+ghost use Rattle.dup_transcript.specs.FirstForm.{is_family_of, is_first_form, is_kind, is_simple, is_template_of};
 ghost use Rattle.dup_main.specs.Stops.{BarsSite};
 
 use crate::stop::Stop;

@@ -1,7 +1,7 @@
 ghost use Rattle.std.specs.Prelude.{◌≡◌};
 ghost use Rattle.std.specs.List.{list_all};
 ghost use Rattle.dup_names.specs.Grammar.{is_digit as digit_grammar};
-ghost use Rattle.dup_model.specs.Numbers.{leads as leads_grammar, number_of};
+ghost use Rattle.dup_transcript.specs.Numbers.{leads as leads_grammar, number_of};
 
 fn leads(word: &[u8]) -> bool
     ensures { result ≡ leads_grammar word.now }

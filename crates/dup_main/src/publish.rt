@@ -1,9 +1,9 @@
 ghost use Rattle.std.specs.Prelude.{◌≡◌, ◌≤◌, ◌<◌, ◌+◌, ◌^◌, OnOk, map, length, true};
 ghost use Rattle.dup_model.specs.Content.{IsOf, keys, table};
-ghost use Rattle.dup_model.specs.FirstForm.{is_first_form};
+ghost use Rattle.dup_transcript.specs.FirstForm.{is_first_form};
 ghost use Rattle.dup_main.specs.Kept.{KeepsPages};
-ghost use Rattle.dup_model.specs.RowPages.{row_object, row_page, row_path};
-ghost use Rattle.dup_model.specs.Sessions.{Published, with_pages, with_page};
+ghost use Rattle.dup_transcript.specs.RowPages.{row_object, row_page, row_path};
+ghost use Rattle.dup_transcript.specs.Sessions.{Published, with_pages, with_page};
 
 use crate::edition::{Edition, Rendered};
 use dup_names::{Key, NoMemory, Obj, Path};
@@ -21,7 +21,7 @@ fn row_object(key: &Key) -> Obj
     }
 }
 
-#[tactic(auto, using(dup_model::proofs::RowPageLemmas::path_formed))]
+#[tactic(auto, using(dup_transcript::proofs::RowPageLemmas::path_formed))]
 fn row_path(site: &Site, key: &Key) -> Path
     requires { is_first_form site.now ≡ true }
     ensures { result ≡ row_path site.now key.now }
@@ -30,7 +30,7 @@ fn row_path(site: &Site, key: &Key) -> Path
 }
 
 /// Renders the page of a row from scratch, and publishes it where the edition has another or lacks it.
-#[tactic(auto, using(dup_model::proofs::RowPageLemmas::row_job))]
+#[tactic(auto, using(dup_transcript::proofs::RowPageLemmas::row_job))]
 fn publish_row(
     alloc: Global,
     site: &Site,

@@ -6,11 +6,11 @@ ghost use Rattle.dup_io.specs.Lines.{to_read, source_of, reference_of, number_of
 ghost use Rattle.dup_template.specs.Good.{IsGood};
 ghost use Rattle.dup_template.specs.declared.site.Parts.{Parts as Sites};
 ghost use Rattle.dup_model.specs.Content.{IsOf, start};
-ghost use Rattle.dup_model.specs.declared.command.Command.TheVariants as command;
+ghost use Rattle.dup_transcript.specs.declared.command.Command.TheVariants as command;
 ghost use Rattle.dup_main.specs.Taken.{Takes};
 ghost use Rattle.dup_main.specs.Commands.{message_command};
 ghost use Rattle.dup_main.specs.Stops.{StopsInScript, WritesScript};
-ghost use Rattle.dup_model.specs.Transcript.{RendersLines};
+ghost use Rattle.dup_transcript.specs.Transcript.{RendersLines};
 
 use crate::all_pages::put_pages;
 use crate::command::read_command;
@@ -18,7 +18,7 @@ use crate::session::ROWS;
 use crate::stop::Stop;
 use crate::texts::{not_built, refusal_text};
 use dup_io::{Lines, Sink, Source, put_all};
-use dup_model::Command;
+use dup_transcript::Command;
 use dup_names::NoMemory;
 use dup_records::{Commit, CommitRefusal, Content, apply};
 use dup_template::Site;

@@ -1,7 +1,7 @@
 ghost use Rattle.std.specs.Prelude.{◌≡◌, ◌≢◌, OnOk, IfErr, IsErrOf, Err};
 ghost use Rattle.std.specs.Io.KnownBytes.{IsAtEnd};
 ghost use Rattle.dup_io.specs.Causes.{Rose};
-ghost use Rattle.dup_model.specs.declared.task.Task.TheVariants.{Render};
+ghost use Rattle.dup_transcript.specs.declared.task.Task.TheVariants.{Render};
 ghost use Rattle.dup_main.specs.Stops.{StopsAt};
 ghost use Rattle.dup_main.specs.Transcript.{WritesTranscript};
 

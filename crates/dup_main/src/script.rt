@@ -2,10 +2,10 @@ ghost use Rattle.std.specs.Prelude.{◌≡◌, ◌≢◌, ◌+◌, OnOk, IfErr, 
 ghost use Rattle.std.specs.Io.KnownBytes.{IsAtEnd};
 ghost use Rattle.dup_io.specs.Causes.{Rose};
 ghost use Rattle.dup_io.specs.Lines.{to_read, source_of, reference_of, number_of, fault_of};
-ghost use Rattle.dup_model.specs.FirstForm.{is_first_form};
+ghost use Rattle.dup_transcript.specs.FirstForm.{is_first_form};
 ghost use Rattle.dup_main.specs.Commands.{message_command};
 ghost use Rattle.dup_main.specs.Stops.{StopsInScript, WritesScript};
-ghost use Rattle.dup_model.specs.Sessions.{Writes, first_session};
+ghost use Rattle.dup_transcript.specs.Sessions.{Writes, first_session};
 
 use crate::command::read_command;
 use crate::session::Session;

@@ -1,6 +1,6 @@
 ghost use Rattle.std.specs.Prelude.{◌≡◌, ◌≤◌, ◌+◌, ◌^◌, ◌<◌, IfOk, true, nat_eq, length};
 ghost use Rattle.std.specs.List.{list_any};
-ghost use Rattle.dup_model.specs.FirstForm.{is_first_form};
+ghost use Rattle.dup_transcript.specs.FirstForm.{is_first_form};
 
 use crate::counts::renewed_count;
 use crate::edition::Edition;
@@ -9,7 +9,8 @@ use crate::texts::{
     absent_text, ahead_text, committed_text, found_text, no_node_text, node_text, not_built,
     refusal_text, settled_text,
 };
-use dup_model::{Command, Mode};
+use dup_model::Mode;
+use dup_transcript::Command;
 use dup_names::{NoMemory, Path};
 use dup_records::{Commit, CommitRefusal, Content, apply};
 use dup_template::Site;
@@ -43,9 +44,9 @@ fn has_node(nodes: &[u16], node: u16) -> bool
 
 impl Session {
     ghost use Rattle.dup_main.specs.Kept.{Acts, IsReady, Keeps};
-    ghost use Rattle.dup_model.specs.Commands.{HasOneChange};
-    ghost use Rattle.dup_model.specs.Sessions.{Session as Sessions, after_command, play_answer, first_session};
-    ghost use Rattle.dup_model.specs.declared.command.Command.TheVariants as command;
+    ghost use Rattle.dup_transcript.specs.Commands.{HasOneChange};
+    ghost use Rattle.dup_transcript.specs.Sessions.{Session as Sessions, after_command, play_answer, first_session};
+    ghost use Rattle.dup_transcript.specs.declared.command.Command.TheVariants as command;
 
     /// The session before any command.
     pub(crate) fn new(alloc: Global, site: Site) -> Result<Session, NoMemory>

@@ -6,7 +6,7 @@ ghost use Rattle.dup_io.specs.Causes.{Rose};
 ghost use Rattle.dup_io.specs.Lines.{to_read, source_of, reference_of, number_of, fault_of};
 ghost use Rattle.dup_names.specs.Lines.{line as line_text};
 ghost use Rattle.dup_main.specs.Stops.{CountsSite, ReadsSite, StopsInSite};
-ghost use Rattle.dup_model.specs.Inputs.{is_end};
+ghost use Rattle.dup_transcript.specs.Inputs.{is_end};
 
 use crate::stop::Stop;
 use dup_io::{Lines, Source};

@@ -1,7 +1,7 @@
 ghost use Rattle.std.specs.Prelude.{◌≡◌};
 ghost use Rattle.dup_main.specs.Tasks.{task_named, task_of};
 
-use dup_model::Task;
+use dup_transcript::Task;
 
 fn task_named(word: &[u8]) -> Option<Task>
     ensures { result ≡ task_named word.now }

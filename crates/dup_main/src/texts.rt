@@ -3,7 +3,7 @@ ghost use Rattle.std.specs.Fmt.{decimal};
 ghost use Rattle.dup_model.specs.Commits.{Refusal};
 ghost use Rattle.dup_records.specs.Refusals.{Names};
 ghost use Rattle.dup_main.specs.Kept.{page_of};
-ghost use Rattle.dup_model.specs.Texts.{found_text, refusal_text, settled_text};
+ghost use Rattle.dup_transcript.specs.Texts.{found_text, refusal_text, settled_text};
 ghost use Rattle.dup_names.specs.Lines.{line};
 
 use crate::edition::Rendered;

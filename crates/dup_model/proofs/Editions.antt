@@ -17,7 +17,8 @@ use Rattle.dup_names.specs.Order.{text_cmp}
 use Rattle.dup_model.specs.Pages.{Target, target}
 use Rattle.dup_model.specs.Commits.{Commit}
 use Rattle.dup_template.specs.declared.site.Parts.{Parts}
-use Rattle.dup_model.specs.Versions.{target_at, content}
+use Rattle.dup_model.specs.Versions.{content}
+use Rattle.dup_model.specs.Pages.{target_at}
 
 nothing : (q : Path) → looks fin.empty q ≡ None
 nothing q = ap (option_map (λ page. page.look)) (fin.get-empty text_cmp q)

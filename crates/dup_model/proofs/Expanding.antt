@@ -8,7 +8,7 @@ use Rattle.dup_names.specs.declared.value.Value.{Value}
 use Rattle.dup_model.specs.Content.{Content, IsOf, value}
 use Rattle.dup_model.specs.Skeletons.{reads}
 use Rattle.dup_model.specs.Touched.{same_value, differs}
-use Rattle.dup_model.specs.Works.{notes, stale}
+use Rattle.dup_model.specs.Expansions.{notes, stale}
 use Rattle.dup_model.specs.Expansions.{Holds, ExpansionsAreGood, GoodIsRight}
 use Rattle.dup_model.specs.Incremental.{IsSameAlone}
 use Rattle.dup_model.proofs.Incremental.{value_same, untouched_same}

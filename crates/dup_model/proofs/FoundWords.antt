@@ -10,7 +10,7 @@ use Rattle.dup_model.specs.Skeletons.{embeds}
 use Rattle.dup_model.specs.Looks.{down}
 use Rattle.dup_model.specs.Pages.{pages}
 use Rattle.dup_model.specs.Touched.{same_obj, is_in}
-use Rattle.dup_model.specs.Works.{found}
+use Rattle.dup_model.specs.Found.{found}
 use Rattle.dup_model.specs.Embeddings.{EmbedsEarlier}
 use Rattle.dup_model.specs.Found.{Found, FoundIsFound}
 use Rattle.dup_model.specs.Found.Found.{of_page, embedded}

@@ -10,7 +10,7 @@ use Rattle.dup_template.specs.declared.site.Parts.{Parts}
 use Rattle.dup_names.specs.Words.{Path}
 use Rattle.dup_model.specs.Commits.{Commit}
 use Rattle.dup_model.specs.Pages.{Target}
-use Rattle.dup_model.specs.Versions.{target_at}
+use Rattle.dup_model.specs.Pages.{target_at}
 use Rattle.dup_model.specs.Needs.{Looks, Paths, IsSound}
 
 -- a page, with the version that it was rendered from

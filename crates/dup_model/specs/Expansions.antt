@@ -1,20 +1,28 @@
--- What an expansion keeps.
-use Rattle.std.specs.Prelude.{◌≡◌, List, map, None}
-use Rattle.std.specs.List.{AllByRecursion}
+-- What is read of an object at a content, when that is stale, and which expansions are good.
+use Rattle.std.specs.Prelude.{◌≡◌, List, map, not, Option, None}
+use Rattle.std.specs.List.{AllByRecursion, find}
 use Rattle.dup_names.specs.declared.object.Item.{Item}
 use Rattle.dup_names.specs.declared.object.Obj.{Obj}
 use Rattle.dup_names.specs.declared.value.Value.{Value}
 use Rattle.dup_names.specs.declared.value.Skeleton.{Skeleton}
 use Rattle.dup_template.specs.declared.site.Parts.{Parts}
 use Rattle.dup_model.specs.Content.{Content, IsOf, value}
-use Rattle.dup_model.specs.Works.{notes, stale}
 use Rattle.dup_model.specs.Skeletons.{reads, skeleton}
+use Rattle.dup_model.specs.Touched.{same_value}
 
 pub record Expansion : Type 0 where
   pub site : Parts
   pub obj : Obj
   pub notes : List (Item × Value)
   pub skeleton : Skeleton
+
+-- what was read of an object at a content
+abbrev pub notes : Content → Obj → List (Item × Value)
+notes c o = map (λ it. (it, value c it)) (reads c o)
+
+-- the first note that isn't the value at c
+abbrev pub stale : Content → List (Item × Value) → Option (Item × Value)
+stale c notes = find (λ n. not (same_value (value c n.0) n.1)) notes
 
 -- each note has its value
 abbrev pub Holds : Content → List (Item × Value) → Type 0

@@ -8,7 +8,10 @@ use Rattle.dup_names.specs.declared.value.Look.{Look}
 use Rattle.dup_template.specs.declared.site.PageRule.{PageRule}
 use Rattle.dup_template.specs.declared.site.PageRule.TheVariants.{Fixed, Family}
 use Rattle.dup_names.specs.Words.{Word, Path, in_order}
+use Rattle.dup_template.specs.declared.site.Parts.{Parts}
 use Rattle.dup_model.specs.Content.{Content, keys}
+use Rattle.dup_model.specs.Commits.{Commit}
+use Rattle.dup_model.specs.Versions.{version}
 use Rattle.dup_model.specs.Names.{kind_named, template_at, object_of}
 use Rattle.dup_model.specs.Looks.{look, uses}
 
@@ -28,8 +31,13 @@ pages c = in_order (λ p q. text_cmp p.0 q.0) (flat_map (pages_of c) c.frame.pag
 abbrev pub Target : Type 0
 Target = fin.FinMap text_cmp Look
 
+-- the look of each page
 abbrev pub target : Content → Target
 target c = fin.from_entries (map (λ p. (p.0, look c p.1)) (pages c))
+
+-- the target of a version
+abbrev pub target_at : Parts → List Commit → ℕ → Target
+target_at site commits i = target (version site commits i)
 
 -- the objects that pages use
 abbrev pub live : Content → List Obj

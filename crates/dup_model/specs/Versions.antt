@@ -5,7 +5,6 @@ use Rattle.std.specs.Option.{option_map}
 use Rattle.dup_template.specs.declared.site.Parts.{Parts}
 use Rattle.dup_model.specs.Content.{Content, start}
 use Rattle.dup_model.specs.Commits.{Commit, after, misfit}
-use Rattle.dup_model.specs.Pages.{Target, target}
 
 -- the content after all these commits
 abbrev pub content : Parts → List Commit → Content
@@ -17,9 +16,6 @@ version site commits i = content site (take i commits)
 -- the content of a target's version, if there is one
 abbrev pub target_content : Parts → List Commit → Option ℕ → Option Content
 target_content site commits target = option_map (version site commits) target
-
-abbrev pub target_at : Parts → List Commit → ℕ → Target
-target_at site commits i = target (version site commits i)
 
 -- each commit fits the content before it
 pub record IsHistory (site : Parts) (commits : List Commit) : Type 0 where

@@ -13,7 +13,7 @@ use Rattle.dup_model.specs.Content.{Content, value}
 use Rattle.dup_model.specs.Expansions.{expansion}
 use Rattle.dup_model.specs.Marks.{marks}
 use Rattle.dup_model.specs.Skeletons.{read_by, goes_by, pieces}
-use Rattle.dup_model.specs.Works.{notes}
+use Rattle.dup_model.specs.Expansions.{notes}
 
 abbrev with_values : Content → List Mark → List (Item × Value)
 with_values c ms = map (λ it. (it, value c it)) (in_order item_cmp (flat_map read_by ms))

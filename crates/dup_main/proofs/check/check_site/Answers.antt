@@ -1,5 +1,5 @@
 use Rattle.std.proofs.Common.{refl, rules}
-use Rattle.dup_model.specs.declared.task.Task.TheVariants.{Check}
+use Rattle.dup_transcript.specs.declared.task.Task.TheVariants.{Check}
 use Rattle.dup_main.proofs.Reached.{no_further}
 use Rattle.dup_main.proofs.WholeRuns.{reads_from, stopped_by_site}
 use Rattle.dup_main.proofs.check.check_site.Goals as goal

@@ -1,8 +1,8 @@
 use Rattle.std.proofs.Common.{◌≡◌, drop, true}
 use Rattle.std.specs.List.{list_all, list_any}
 use Rattle.dup_model.specs.Content.{body_at}
-use Rattle.dup_model.specs.FirstForm.{is_simple}
-use Rattle.dup_model.specs.RowCounts.{is_read_anew}
+use Rattle.dup_transcript.specs.FirstForm.{is_simple}
+use Rattle.dup_transcript.specs.RowCounts.{is_read_anew}
 use Rattle.dup_main.proofs.counts.is_touched.Given as goal
 
 abbrev pub invariant-loop-statement : goal.invariant-loop-statement

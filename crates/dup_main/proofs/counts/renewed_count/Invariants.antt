@@ -1,6 +1,6 @@
 use Rattle.std.proofs.Common.{◌≡◌, ◌≤◌, ◌+◌, drop, map, length}
 use Rattle.std.specs.List.{filter}
-use Rattle.dup_model.specs.RowCounts.{is_renewed, renewed_count}
+use Rattle.dup_transcript.specs.RowCounts.{is_renewed, renewed_count}
 use Rattle.dup_main.proofs.counts.renewed_count.Given as goal
 
 abbrev pub invariant-loop-row : goal.invariant-loop-row

@@ -1,7 +1,7 @@
 use Rattle.std.proofs.Common.{◌≡◌, ◌<◌, ◌^◌, drop}
 use Rattle.std.specs.List.{list_all}
 use Rattle.dup_names.specs.Grammar.{is_digit}
-use Rattle.dup_model.specs.Numbers.{value_behind}
+use Rattle.dup_transcript.specs.Numbers.{value_behind}
 use Rattle.dup_main.proofs.number.read_number.Given as goal
 
 abbrev pub invariant-loop-byte : goal.invariant-loop-byte

@@ -1,11 +1,11 @@
 use Rattle.std.proofs.Common.{refl, rules, []}
 use Rattle.std.specs.Prelude.{Ok}
 use Rattle.dup_main.specs.Commands.{message_command}
-use Rattle.dup_model.specs.declared.task.Task.TheVariants.{Play}
+use Rattle.dup_transcript.specs.declared.task.Task.TheVariants.{Play}
 use Rattle.dup_main.proofs.WholeRuns.{reads_from, stopped_by_site, with_script, without_script, ended_without_script, count_with_script, written_by_script, stopped_by_script, does_play}
 use Rattle.std.proofs.KnownBytes.{Appends-nil}
-use Rattle.dup_model.specs.Sessions.{Writes, first_session}
-use Rattle.dup_model.specs.Transcript.{site_ok}
+use Rattle.dup_transcript.specs.Sessions.{Writes, first_session}
+use Rattle.dup_transcript.specs.Transcript.{site_ok}
 use Rattle.dup_main.proofs.play.play.Goals as goal
 
 pub returns-in_err-site-clause-stopped : goal.returns-in_err-site-clause-stopped

@@ -3,7 +3,7 @@ use Rattle.std.specs.Prelude.{OnOk}
 use Rattle.dup_names.specs.Words.{Path}
 use Rattle.dup_names.specs.declared.value.Look.{Look}
 use Rattle.dup_main.specs.Kept.{KeepsPages}
-use Rattle.dup_model.specs.Sessions.{Published, with_page}
+use Rattle.dup_transcript.specs.Sessions.{Published, with_page}
 use Rattle.dup_main.proofs.Published.{page_is}
 use Rattle.dup_main.proofs.publish.publish_row.Goals as goal
 

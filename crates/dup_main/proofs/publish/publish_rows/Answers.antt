@@ -1,7 +1,7 @@
 use Rattle.std.proofs.Common.{subst, rules}
 use Rattle.dup_main.specs.Kept.{KeepsPages}
-use Rattle.dup_model.specs.RowPages.{row_page}
-use Rattle.dup_model.specs.Sessions.{Published, with_page}
+use Rattle.dup_transcript.specs.RowPages.{row_page}
+use Rattle.dup_transcript.specs.Sessions.{Published, with_page}
 use Rattle.dup_main.proofs.Published.{one_more, finished}
 use Rattle.dup_main.proofs.publish.publish_rows.Goals as goal
 

@@ -1,7 +1,7 @@
 use Rattle.std.proofs.Common.{◌≡◌, ◌≤◌, ◌+◌, drop, map}
 use Rattle.dup_main.specs.Kept.{KeepsPages}
-use Rattle.dup_model.specs.RowPages.{row_page}
-use Rattle.dup_model.specs.Sessions.{Published, with_pages}
+use Rattle.dup_transcript.specs.RowPages.{row_page}
+use Rattle.dup_transcript.specs.Sessions.{Published, with_pages}
 use Rattle.dup_main.proofs.publish.publish_rows.Given as goal
 
 abbrev pub invariant-loop-row : goal.invariant-loop-row

@@ -3,7 +3,7 @@ use Rattle.dup_io.specs.Lines.{number_of}
 use Rattle.dup_io.specs.declared.lines.LineFault.{LineFault}
 use Rattle.dup_main.specs.Commands.{message_command}
 use Rattle.dup_model.proofs.GoodSites.{good_jobs_fit}
-use Rattle.dup_model.specs.Transcript.{RendersLines}
+use Rattle.dup_transcript.specs.Transcript.{RendersLines}
 use Rattle.dup_main.proofs.CutScripts.{stops_in_script, stops_on_write}
 use Rattle.dup_main.proofs.RenderSoFar.{begun, more, ended_by, reaches}
 use Rattle.dup_main.proofs.SiteSoFar.{due_of}

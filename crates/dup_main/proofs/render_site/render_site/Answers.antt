@@ -1,9 +1,9 @@
 use Rattle.std.proofs.Common.{ap, refl, rules, []}
 use Rattle.std.proofs.KnownBytes.{Appends-nil}
 use Rattle.dup_main.specs.Commands.{message_command}
-use Rattle.dup_model.specs.RenderedPages.{rendered_pages}
-use Rattle.dup_model.specs.Transcript.{RendersLines}
-use Rattle.dup_model.specs.declared.task.Task.TheVariants.{Render}
+use Rattle.dup_transcript.specs.RenderedPages.{rendered_pages}
+use Rattle.dup_transcript.specs.Transcript.{RendersLines}
+use Rattle.dup_transcript.specs.declared.task.Task.TheVariants.{Render}
 use Rattle.dup_main.proofs.PageJobs.{first_fits}
 use Rattle.dup_main.proofs.WholeRuns.{reads_from, stopped_by_site, with_script, without_script, count_with_script, ended_without_script, written_by_script, stopped_by_script, does_render}
 use Rattle.dup_main.proofs.render_site.render_site.Goals as goal

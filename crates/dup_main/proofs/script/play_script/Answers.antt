@@ -6,7 +6,7 @@ use Rattle.dup_main.proofs.ScriptSoFar.{begun, more, ended, reaches, Acts}
 use Rattle.dup_main.proofs.SiteSoFar.{due_of}
 use Rattle.dup_io.specs.Lines.{number_of}
 use Rattle.dup_main.specs.Commands.{message_command}
-use Rattle.dup_model.specs.Sessions.{Writes, first_session}
+use Rattle.dup_transcript.specs.Sessions.{Writes, first_session}
 use Rattle.dup_main.proofs.script.play_script.Goals as goal
 
 pub lines-init : goal.lines-init

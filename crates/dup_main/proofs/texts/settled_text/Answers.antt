@@ -2,7 +2,7 @@ use Rattle.std.proofs.Common.{◌≡◌, ◌∙◌, append_assoc, string_bytes}
 use Rattle.std.specs.Prelude.{String}
 use Rattle.std.specs.declared.alloc.Global.{Global}
 use Rattle.std.proofs.lemmas.Result.{IfOk-weaker}
-use Rattle.dup_model.specs.Texts.{settled_text}
+use Rattle.dup_transcript.specs.Texts.{settled_text}
 use Rattle.dup_main.proofs.texts.settled_text.Goals as goal
 
 pub returns : goal.returns

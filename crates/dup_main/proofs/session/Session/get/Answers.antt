@@ -3,7 +3,7 @@ use Rattle.std.specs.Prelude.{Vec}
 use Rattle.std.specs.declared.alloc.Global.{Global}
 use Rattle.std.proofs.lemmas.Result.{IfOk-weaker}
 use Rattle.dup_main.specs.Kept.{Acts}
-use Rattle.dup_model.specs.declared.command.Command.TheVariants as command
+use Rattle.dup_transcript.specs.declared.command.Command.TheVariants as command
 use Rattle.dup_main.proofs.Settling.{found_acts}
 use Rattle.dup_main.proofs.session.Session.get.Goals as goal
 

@@ -1,0 +1,28 @@
+ghost use Rattle.dup_machine.specs.Headline.{Headline, EachEventIsAnswered, LogGrows};
+ghost use Rattle.dup_machine.specs.Status.{PendingIsTold};
+ghost use Rattle.dup_machine.specs.Settle.{SettleReports, NothingIsDone, SettleResumes, PublishEnds, SettleEnds};
+
+/// What holds after every list of events.
+pub fn headline()
+    ensures { Headline }
+{}
+
+/// How replies and the log of a run grow.
+pub fn runs_law()
+    ensures replies { EachEventIsAnswered }
+    ensures log { LogGrows }
+{}
+
+/// A status says that something is pending exactly where something is.
+pub fn status_law()
+    ensures { PendingIsTold }
+{}
+
+/// What settling reports, and that it leaves nothing pending.
+pub fn settle_law()
+    ensures report { SettleReports }
+    ensures again { NothingIsDone }
+    ensures resumed { SettleResumes }
+    ensures publish { PublishEnds }
+    ensures ends { SettleEnds }
+{}

@@ -1,5 +1,0 @@
-use Rattle.dup_model.proofs.example_rows.catch_up_rows.Goals as goal
-use Rattle.dup_model.proofs.CatchUpComputed.{catch_up_row}
-
-pub returns : goal.returns
-returns c = catch_up_row

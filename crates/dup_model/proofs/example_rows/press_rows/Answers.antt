@@ -1,8 +1,0 @@
-use Rattle.dup_model.proofs.example_rows.press_rows.Goals as goal
-use Rattle.dup_model.proofs.PressRowsComputed.{events_good, press_row}
-
-pub returns-clause-good : goal.returns-clause-good
-returns-clause-good c = events_good
-
-pub returns-clause-steps : goal.returns-clause-steps
-returns-clause-steps c = press_row

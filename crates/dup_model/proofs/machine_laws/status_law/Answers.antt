@@ -1,5 +1,0 @@
-use Rattle.dup_model.proofs.machine_laws.status_law.Goals as goal
-use Rattle.dup_model.proofs.Pending.{pending_is_told}
-
-pub returns : goal.returns
-returns c = pending_is_told

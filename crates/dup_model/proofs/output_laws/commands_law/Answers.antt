@@ -1,5 +1,0 @@
-use Rattle.dup_model.proofs.CommandTable.{each_is_read}
-use Rattle.dup_model.proofs.output_laws.commands_law.Goals as goal
-
-pub returns : goal.returns
-returns c = each_is_read

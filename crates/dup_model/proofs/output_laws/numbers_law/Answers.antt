@@ -1,5 +1,0 @@
-use Rattle.dup_model.proofs.Numbers.{numbers_are_decimal}
-use Rattle.dup_model.proofs.output_laws.numbers_law.Goals as goal
-
-pub returns : goal.returns
-returns c = numbers_are_decimal

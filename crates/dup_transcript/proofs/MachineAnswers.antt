@@ -1,0 +1,499 @@
+-- The machine answers each list of commands, and in one way.
+use Rattle.std.proofs.Common.{◌≡◌, ℕ, zero, suc, ◌+◌, ◌-◌, inl, inr, false, List, [], ◌∷◌, ◌++◌, length, drop, take, refl, sym, ap, subst, ◌∙◌}
+use Rattle.std.specs.Prelude.{Option, Some, None}
+use Rattle.std.specs.List.{fold}
+use Rattle.std.specs.FinMap as fin
+use Rattle.std.specs.Ordering.{nat_cmp}
+use Rattle.std.proofs.Math.Seq.{take-length}
+use Rattle.std.proofs.lemmas.List.Sums.{fold-append}
+use Rattle.dup_names.specs.Words.{Word, Path}
+use Rattle.dup_template.specs.declared.site.Parts.{Parts}
+use Rattle.dup_model.specs.Answers.{answer}
+use Rattle.dup_model.specs.Bundles.{bundle}
+use Rattle.dup_model.specs.Caches.{Cache}
+use Rattle.dup_model.specs.declared.mode.Mode.{Mode}
+use Rattle.dup_transcript.specs.Commands.{Command}
+use Rattle.dup_model.specs.Commits.{Commit}
+use Rattle.dup_model.specs.Content.{start}
+use Rattle.dup_model.specs.Editions.{Bundle, bundle_of, edition, history, looks, target_looks}
+use Rattle.dup_model.specs.Embeddings.{EmbedsEarlier}
+use Rattle.dup_model.specs.Journal.{Limits, commit_refusal, unless_refused}
+use Rattle.dup_transcript.specs.MachinePlays.{CommandsLeaveReady, IsReady, IsTold, LastTold, MachinePlays, PlaysAreOne, PlaysExist, Settles, SettlesLeaveNothing, StandsFor, StartsReady}
+use Rattle.dup_transcript.specs.MachinePlays.Settles.{at_once, by_work}
+use Rattle.dup_model.specs.Needs.{changed}
+use Rattle.dup_machine.specs.Nodes.{node_made, requested, with_node}
+use Rattle.dup_model.specs.Pages.{Target, live}
+use Rattle.dup_machine.specs.Press.{commit_told, published_by, target_of, version_of}
+use Rattle.dup_machine.specs.Run.{run, step}
+use Rattle.dup_machine.specs.Status.{NothingPending}
+use Rattle.dup_machine.specs.Settle.{IsPublished, IsSettled, counts_of, publishes, settling}
+use Rattle.dup_transcript.specs.Texts.{not_built_text, settled_text, told_text}
+use Rattle.dup_model.specs.Touched.{expanded}
+use Rattle.dup_model.specs.Versions.{content, target_content}
+use Rattle.dup_model.specs.Pages.{target_at}
+use Rattle.dup_machine.specs.World.{Counts, Event, Told, World, answered, first_world, told}
+use Rattle.dup_machine.specs.World.Begun.{Nothing}
+use Rattle.dup_machine.specs.World.Ended.{Report}
+use Rattle.dup_machine.specs.World.Event.{Begin, Comes, Node, Publish, Request}
+use Rattle.dup_machine.specs.World.Told.{Begins, Finished, NodeMade, NodeTaken, NoNode, NothingChanged, Published}
+use Rattle.dup_transcript.specs.declared.command.Command.TheVariants as command
+use Rattle.dup_model.proofs.Bundling.{bundle_is_none}
+use Rattle.dup_machine.proofs.Pending.{last_target}
+use Rattle.dup_machine.proofs.Publishing.{publish_ends}
+use Rattle.dup_transcript.proofs.Reports.{begins_nothing, none_reported, nothing_new, report_is, settle_counts, target_case, told_once}
+use Rattle.dup_machine.proofs.Settling.{nothing_is_done, settle_reports}
+
+-- two states that differ in their replies and slots alone
+pub record Alike (v u : World) : Type 0 where
+  pub commits : v.commits ≡ u.commits
+  pub target : v.target ≡ u.target
+  pub work : v.work ≡ u.work
+  pub log : v.log ≡ u.log
+  pub nodes : v.nodes ≡ u.nodes
+
+alike_itself : (v : World) → Alike v v
+alike_itself v = record { commits = refl; target = refl; work = refl; log = refl; nodes = refl }
+
+alike_then : (v u x : World) → Alike v u → Alike u x → Alike v x
+alike_then v u x a b = record {
+  commits = a.commits ∙ b.commits;
+  target = a.target ∙ b.target;
+  work = a.work ∙ b.work;
+  log = a.log ∙ b.log;
+  nodes = a.nodes ∙ b.nodes;
+}
+
+alike_back : (v u : World) → Alike v u → Alike u v
+alike_back v u a = record { commits = sym a.commits; target = sym a.target; work = sym a.work; log = sym a.log; nodes = sym a.nodes }
+
+between : {v u w x : World} → v ≡ u → w ≡ x → Alike u x → Alike v w
+between {v} {u} {w} {x} first second a = subst (λ y. Alike y w) (sym first) (subst (Alike u) (sym second) a)
+
+module _ (site : Parts) (limits : Limits) where
+  same_target : (v u : World) → Alike v u → target_of site v v.target ≡ target_of site u u.target
+  same_target v u a = by_version v.target ∙ ap (target_of site u) a.target
+    where
+      by_version : (t : Option ℕ) → target_of site v t ≡ target_of site u t
+      by_version None = refl
+      by_version (Some i) = ap (λ (cs : List Commit). target_at site cs i) a.commits
+
+  abbrev next_of : World → Option (List Path)
+  next_of w = bundle (edition w.log) (target_of site w w.target)
+
+  same_next : (v u : World) → Alike v u → next_of v ≡ next_of u
+  same_next v u a = λ i. bundle (edition (a.log i)) (same_target v u a i)
+
+  -- publishing
+
+  published_alike : (t : Target) (n : ℕ) (o : Option (List Path)) (v u : World) → Alike v u → Alike (published_by t n o v) (published_by t n o u)
+  published_alike t n None v u a = record { commits = a.commits; target = a.target; work = a.work; log = a.log; nodes = a.nodes }
+  published_alike t n (Some paths) v u a = record {
+    commits = a.commits;
+    target = a.target;
+    work = a.work;
+    log = λ i. a.log i ++ bundle_of t n (drop (length (history (a.log i))) (take n (a.commits i))) paths ∷ [];
+    nodes = a.nodes;
+  }
+
+  publish_alike : (v u : World) → Alike v u → Alike (step site limits v Publish) (step site limits u Publish)
+  publish_alike v u a =
+      let goes : step site limits v Publish ≡ published_by (target_of site u u.target) (version_of u.target) (next_of u) v =
+      λ i. published_by (same_target v u a i) (version_of (a.target i)) (same_next v u a i) v in
+      subst (λ x. Alike x (step site limits u Publish)) (sym goes) (published_alike (target_of site u u.target) (version_of u.target) (next_of u) v u a)
+
+  published_ready : (t : Target) (n : ℕ) (o : Option (List Path)) (w : World) → IsReady w → IsReady (published_by t n o w)
+  published_ready t n None w r = record { idle = r.idle; slot = r.slot }
+  published_ready t n (Some paths) w r = record { idle = r.idle; slot = r.slot }
+
+  publishes_ready : (n : ℕ) (w : World) → IsReady w → IsReady (fold (step site limits) w (publishes n))
+  publishes_ready zero w r = r
+  publishes_ready (suc n) w r = publishes_ready n (step site limits w Publish) (published_ready (target_of site w w.target) (version_of w.target) (next_of w) w r)
+
+  -- nothing is changed
+  abbrev IsDone : World → Type 0
+  IsDone w = next_of w ≡ None
+
+  done_goes : (w : World) → IsDone w → step site limits w Publish ≡ told NothingChanged w
+  done_goes w done = ap (λ (o : Option (List Path)). published_by (target_of site w w.target) (version_of w.target) o w) done
+
+  done_told : (w : World) → LastTold (step site limits w Publish) NothingChanged → IsDone w
+  done_told w tells = by_next (next_of w) refl
+    where
+      by_next : (o : Option (List Path)) → next_of w ≡ o → o ≡ None
+      by_next None is = refl
+      by_next (Some paths) is =
+          let b : Bundle = bundle_of (target_of site w w.target) (version_of w.target) (drop (length (history w.log)) (take (version_of w.target) w.commits)) paths in
+          let goes : step site limits w Publish ≡ published_by (target_of site w w.target) (version_of w.target) (Some paths) w =
+          ap (λ (o : Option (List Path)). published_by (target_of site w w.target) (version_of w.target) o w) is in
+          let e : Published (length w.log + 1) (version_of w.target) (length b.puts) (length b.drops) ≡ NothingChanged =
+          told_once (step site limits w Publish) (Published (length w.log + 1) (version_of w.target) (length b.puts) (length b.drops)) NothingChanged (w.replies, ap (λ u. u.replies) goes) tells in
+          absurd (cc)
+
+  done_after : (w : World) → LastTold (step site limits w Publish) NothingChanged → IsDone (step site limits w Publish)
+  done_after w tells = subst IsDone (sym (done_goes w (done_told w tells))) (done_same w (told NothingChanged w) (record { commits = refl; target = refl; work = refl; log = refl; nodes = refl }) (done_told w tells))
+    where
+      done_same : (v u : World) → Alike v u → IsDone v → IsDone u
+      done_same v u a done = sym (same_next v u a) ∙ done
+
+  stays : (n : ℕ) (w : World) → IsDone w → Alike w (fold (step site limits) w (publishes n))
+  stays zero w done = alike_itself w
+  stays (suc n) w done =
+      let a : Alike w (step site limits w Publish) = subst (Alike w) (sym (done_goes w done)) (record { commits = refl; target = refl; work = refl; log = refl; nodes = refl }) in
+      alike_then w (step site limits w Publish) (fold (step site limits) (step site limits w Publish) (publishes n)) a
+      (stays n (step site limits w Publish) (sym (same_next w (step site limits w Publish) a) ∙ done))
+
+  -- however often it is published, until nothing is changed
+  publishes_same : (n m : ℕ) (v u : World) → Alike v u → (LastTold v NothingChanged → IsDone v) → (LastTold u NothingChanged → IsDone u)
+      → LastTold (fold (step site limits) v (publishes n)) NothingChanged → LastTold (fold (step site limits) u (publishes m)) NothingChanged
+      → Alike (fold (step site limits) v (publishes n)) (fold (step site limits) u (publishes m))
+  publishes_same zero m v u a first second one two =
+      alike_then v u (fold (step site limits) u (publishes m)) a (stays m u (sym (same_next v u a) ∙ first one))
+  publishes_same (suc n) zero v u a first second one two =
+      alike_then (fold (step site limits) v (publishes (suc n))) v u (alike_back v (fold (step site limits) v (publishes (suc n))) (stays (suc n) v (same_next v u a ∙ second two))) a
+  publishes_same (suc n) (suc m) v u a first second one two =
+      publishes_same n m (step site limits v Publish) (step site limits u Publish) (publish_alike v u a) (done_after v) (done_after u) one two
+
+  -- publishing comes to an end
+
+  publishes_snoc : (n : ℕ) (w : World) → fold (step site limits) w (publishes (suc n)) ≡ step site limits (fold (step site limits) w (publishes n)) Publish
+  publishes_snoc zero w = refl
+  publishes_snoc (suc n) w = publishes_snoc n (step site limits w Publish)
+
+  publishing_ends : (w : World) → (n : ℕ) × LastTold (fold (step site limits) w (publishes n)) NothingChanged
+  publishing_ends w =
+      let e : (n : ℕ) × IsPublished site w (fold (step site limits) w (publishes n)) = publish_ends site limits w in
+      let same : target_of site (fold (step site limits) w (publishes e.0)) (fold (step site limits) w (publishes e.0)).target ≡ target_of site w w.target =
+      by_version (fold (step site limits) w (publishes e.0)) (fold (step site limits) w (publishes e.0)).target e.1.commits ∙ ap (target_of site w) e.1.target in
+      let done : IsDone (fold (step site limits) w (publishes e.0)) =
+      (bundle_is_none (edition (fold (step site limits) w (publishes e.0)).log) (target_of site (fold (step site limits) w (publishes e.0)) (fold (step site limits) w (publishes e.0)).target)).1
+      (λ p. ap (λ (t : Target). changed (looks (edition (fold (step site limits) w (publishes e.0)).log)) (target_looks t) p) same ∙ e.1.none p) in
+      (suc e.0, ((fold (step site limits) w (publishes e.0)).replies, ap (λ u. u.replies) (publishes_snoc e.0 w ∙ done_goes (fold (step site limits) w (publishes e.0)) done)))
+    where
+      by_version : (v : World) (t : Option ℕ) → v.commits ≡ w.commits → target_of site v t ≡ target_of site w t
+      by_version v None is = refl
+      by_version v (Some i) is = ap (λ (cs : List Commit). target_at site cs i) is
+
+  -- what a settle comes to, before it publishes, and what it publishes
+  record Outcome (w : World) (events : List Event) (counts : Counts) : Type 0 where
+    pub before : World
+    pub commits : before.commits ≡ w.commits
+    pub target : before.target ≡ Some (length w.commits)
+    pub ready : IsReady before
+    pub log : before.log ≡ w.log
+    pub nodes : before.nodes ≡ w.nodes
+    pub unpublished : LastTold before NothingChanged → ⊥
+    pub count : ℕ
+    pub ends : fold (step site limits) w events ≡ fold (step site limits) before (publishes count)
+    pub last : LastTold (fold (step site limits) before (publishes count)) NothingChanged
+    pub counted : counts ≡ counts_of (target_content site w.commits w.target) (content site w.commits) (length w.commits)
+
+  module _ (earlier : EmbedsEarlier (start site)) where
+    settle_comes : (w : World) (events : List Event) (counts : Counts) → IsReady w → Settles site limits w events counts → Outcome w events counts
+    settle_comes w _ _ r (by_work k m n counts report last) = elim (target_case w.target (length w.commits)) [
+      | inl new ↦ absurd (none_reported site limits w earlier r.idle r.slot k m counts new report)
+      | inr other ↦
+          let is : IsSettled w (settle_counts site limits w earlier r.idle r.slot) (fold (step site limits) w (settling k m)) × (counts ≡ settle_counts site limits w earlier r.idle r.slot) =
+          report_is site limits w earlier r.idle r.slot k m counts other report in
+          let goes : fold (step site limits) w (settling k m ++ publishes n) ≡ fold (step site limits) (fold (step site limits) w (settling k m)) (publishes n) =
+          fold-append (step site limits) w (settling k m) (publishes n) in
+          record {
+            before = fold (step site limits) w (settling k m);
+            commits = is.0.commits;
+            target = is.0.target;
+            ready = record { idle = is.0.idle; slot = is.0.slot };
+            log = is.0.log;
+            nodes = is.0.nodes;
+            unpublished = λ tells. absurd (let e : Finished (Report counts) ≡ NothingChanged = told_once (fold (step site limits) w (settling k m)) (Finished (Report counts)) NothingChanged report tells in cc);
+            count = n;
+            ends = goes;
+            last = subst (λ u. LastTold u NothingChanged) goes last;
+            counted = is.1;
+          }
+    ]
+    settle_comes w _ _ r (at_once v n tells last) =
+        let new : (w.target ≡ Some (length w.commits)) × (v ≡ length w.commits) = nothing_new site limits w earlier r.idle r.slot v tells in
+        let goes : step site limits w Begin ≡ told (Begins (Nothing (length w.commits))) w = begins_nothing site limits w earlier r.idle r.slot new.0 in
+        record {
+          before = step site limits w Begin;
+          commits = ap (λ u. u.commits) goes;
+          target = ap (λ u. u.target) goes ∙ new.0;
+          ready = subst IsReady (sym goes) (record { idle = r.idle; slot = r.slot });
+          log = ap (λ u. u.log) goes;
+          nodes = ap (λ u. u.nodes) goes;
+          unpublished = λ more. absurd (let e : Begins (Nothing v) ≡ NothingChanged = told_once (step site limits w Begin) (Begins (Nothing v)) NothingChanged tells more in cc);
+          count = n;
+          ends = refl;
+          last = last;
+          counted = (λ i. record { version = new.1 i; expanded = 0; joined = 0; kept = length (live (content site w.commits)) })
+              ∙ sym (ap (λ (t : Option ℕ). counts_of (target_content site w.commits t) (content site w.commits) (length w.commits)) new.0
+              ∙ ap (λ (cs : List Commit). counts_of (Some (content site cs)) (content site w.commits) (length w.commits)) (take-length w.commits)
+              ∙ nothing_is_done (content site w.commits) (length w.commits));
+        }
+
+    -- two turns of one command
+    record SameTurn (w x : World) (a b : List Event) (said heard : Word) : Type 0 where
+      pub texts : said ≡ heard
+      pub alike : Alike (fold (step site limits) w a) (fold (step site limits) x b)
+      pub ready : IsReady (fold (step site limits) w a)
+      pub ready_too : IsReady (fold (step site limits) x b)
+
+    settles_same : (w x : World) (a b : List Event) (counts found : Counts) → Alike w x → IsReady w → IsReady x → Settles site limits w a counts → Settles site limits x b found
+        → (counts ≡ found) × Alike (fold (step site limits) w a) (fold (step site limits) x b) × IsReady (fold (step site limits) w a) × IsReady (fold (step site limits) x b)
+    settles_same w x a b counts found alike r q one two =
+        let h : Outcome w a counts = settle_comes w a counts r one in
+        let k : Outcome x b found = settle_comes x b found q two in
+        let before : Alike h.before k.before = record {
+          commits = h.commits ∙ alike.commits ∙ sym k.commits;
+          target = h.target ∙ ap (λ (cs : List Commit). Some (length cs)) alike.commits ∙ sym k.target;
+          work = h.ready.idle ∙ sym k.ready.idle;
+          log = h.log ∙ alike.log ∙ sym k.log;
+          nodes = h.nodes ∙ alike.nodes ∙ sym k.nodes;
+        } in
+        let after : Alike (fold (step site limits) h.before (publishes h.count)) (fold (step site limits) k.before (publishes k.count)) =
+        publishes_same h.count k.count h.before k.before before (λ tells. absurd (h.unpublished tells)) (λ tells. absurd (k.unpublished tells)) h.last k.last in (
+          h.counted ∙ (λ i. counts_of (target_content site (alike.commits i) (alike.target i)) (content site (alike.commits i)) (length (alike.commits i))) ∙ sym k.counted,
+          subst (λ v. Alike v (fold (step site limits) x b)) (sym h.ends) (subst (Alike (fold (step site limits) h.before (publishes h.count))) (sym k.ends) after),
+          subst IsReady (sym h.ends) (publishes_ready h.count h.before h.ready),
+          subst IsReady (sym k.ends) (publishes_ready k.count k.before k.ready),
+        )
+
+    -- an event that is answered alike
+    record SameStep (w x : World) (event : Event) : Type 0 where
+      pub reply : Told
+      pub tells : LastTold (step site limits w event) reply
+      pub tells_too : LastTold (step site limits x event) reply
+      pub alike : Alike (step site limits w event) (step site limits x event)
+      pub ready : IsReady (step site limits w event)
+      pub ready_too : IsReady (step site limits x event)
+
+    commit_same : (w x : World) (commit : Commit) → Alike w x → IsReady w → IsReady x → SameStep w x (Comes commit)
+    commit_same w x commit a r q =
+        record {
+          reply = commit_told w.commits (commit_refusal site limits w.commits commit);
+          tells = (w.replies, refl);
+          tells_too = (x.replies, ap (λ (cs : List Commit). x.replies ++ commit_told cs (commit_refusal site limits cs commit) ∷ []) (sym a.commits));
+          alike = record {
+            commits = ap (λ (cs : List Commit). unless_refused cs commit (commit_refusal site limits cs commit)) a.commits;
+            target = a.target;
+            work = a.work;
+            log = a.log;
+            nodes = a.nodes;
+          };
+          ready = record { idle = r.idle; slot = r.slot };
+          ready_too = record { idle = q.idle; slot = q.slot };
+        }
+
+    node_same : (w x : World) (number capacity : ℕ) (mode : Mode) → Alike w x → IsReady w → IsReady x → SameStep w x (Node number capacity mode)
+    node_same w x number capacity mode a r q = by_node (fin.get w.nodes number) refl
+      where
+        by_node : (o : Option Cache) → fin.get w.nodes number ≡ o → SameStep w x (Node number capacity mode)
+        by_node (Some cache) is =
+            let first : step site limits w (Node number capacity mode) ≡ told (NodeTaken number) w = ap (λ (o : Option Cache). node_made number capacity mode o w) is in
+            let second : step site limits x (Node number capacity mode) ≡ told (NodeTaken number) x =
+            ap (λ (o : Option Cache). node_made number capacity mode o x) (ap (λ (m : fin.FinMap nat_cmp Cache). fin.get m number) (sym a.nodes) ∙ is) in
+            record {
+              reply = NodeTaken number;
+              tells = (w.replies, ap (λ u. u.replies) first);
+              tells_too = (x.replies, ap (λ u. u.replies) second);
+              alike = between first second (record { commits = a.commits; target = a.target; work = a.work; log = a.log; nodes = a.nodes });
+              ready = subst IsReady (sym first) (record { idle = r.idle; slot = r.slot });
+              ready_too = subst IsReady (sym second) (record { idle = q.idle; slot = q.slot });
+            }
+        by_node None is =
+            let first : step site limits w (Node number capacity mode) ≡ told (NodeMade number) (with_node number (record { capacity = capacity; mode = mode; number = 0; entries = [] }) w) =
+            ap (λ (o : Option Cache). node_made number capacity mode o w) is in
+            let second : step site limits x (Node number capacity mode) ≡ told (NodeMade number) (with_node number (record { capacity = capacity; mode = mode; number = 0; entries = [] }) x) =
+            ap (λ (o : Option Cache). node_made number capacity mode o x) (ap (λ (m : fin.FinMap nat_cmp Cache). fin.get m number) (sym a.nodes) ∙ is) in
+            record {
+              reply = NodeMade number;
+              tells = (w.replies, ap (λ u. u.replies) first);
+              tells_too = (x.replies, ap (λ u. u.replies) second);
+              alike = between first second (record {
+                commits = a.commits;
+                target = a.target;
+                work = a.work;
+                log = a.log;
+                nodes = ap (λ (m : fin.FinMap nat_cmp Cache). fin.insert m number (record { capacity = capacity; mode = mode; number = 0; entries = [] })) a.nodes;
+              });
+              ready = subst IsReady (sym first) (record { idle = r.idle; slot = r.slot });
+              ready_too = subst IsReady (sym second) (record { idle = q.idle; slot = q.slot });
+            }
+
+    request_same : (w x : World) (number pass : ℕ) (path : Path) → Alike w x → IsReady w → IsReady x → SameStep w x (Request number pass path false)
+    request_same w x number pass path a r q = by_node (fin.get w.nodes number) refl
+      where
+        by_node : (o : Option Cache) → fin.get w.nodes number ≡ o → SameStep w x (Request number pass path false)
+        by_node None is =
+            let first : step site limits w (Request number pass path false) ≡ told (NoNode number) w = ap (λ (o : Option Cache). requested number pass path false o w) is in
+            let second : step site limits x (Request number pass path false) ≡ told (NoNode number) x =
+            ap (λ (o : Option Cache). requested number pass path false o x) (ap (λ (m : fin.FinMap nat_cmp Cache). fin.get m number) (sym a.nodes) ∙ is) in
+            record {
+              reply = NoNode number;
+              tells = (w.replies, ap (λ u. u.replies) first);
+              tells_too = (x.replies, ap (λ u. u.replies) second);
+              alike = between first second (record { commits = a.commits; target = a.target; work = a.work; log = a.log; nodes = a.nodes });
+              ready = subst IsReady (sym first) (record { idle = r.idle; slot = r.slot });
+              ready_too = subst IsReady (sym second) (record { idle = q.idle; slot = q.slot });
+            }
+        by_node (Some cache) is =
+            let first : step site limits w (Request number pass path false) ≡ told (answered (answer cache w.log pass path false).reply) (with_node number (answer cache w.log pass path false).cache w) =
+            ap (λ (o : Option Cache). requested number pass path false o w) is in
+            let second : step site limits x (Request number pass path false) ≡ told (answered (answer cache w.log pass path false).reply) (with_node number (answer cache w.log pass path false).cache x) =
+            ap (λ (o : Option Cache). requested number pass path false o x) (ap (λ (m : fin.FinMap nat_cmp Cache). fin.get m number) (sym a.nodes) ∙ is)
+            ∙ ap (λ (log : List Bundle). told (answered (answer cache log pass path false).reply) (with_node number (answer cache log pass path false).cache x)) (sym a.log) in
+            record {
+              reply = answered (answer cache w.log pass path false).reply;
+              tells = (w.replies, ap (λ u. u.replies) first);
+              tells_too = (x.replies, ap (λ u. u.replies) second);
+              alike = between first second (record {
+                commits = a.commits;
+                target = a.target;
+                work = a.work;
+                log = a.log;
+                nodes = ap (λ (m : fin.FinMap nat_cmp Cache). fin.insert m number (answer cache w.log pass path false).cache) a.nodes;
+              });
+              ready = subst IsReady (sym first) (record { idle = r.idle; slot = r.slot });
+              ready_too = subst IsReady (sym second) (record { idle = q.idle; slot = q.slot });
+            }
+
+    event_same : (w x : World) (event : Event) (a b : List Event) (said heard : Word) → SameStep w x event → (a ≡ event ∷ []) × IsTold site limits w event said → (b ≡ event ∷ []) × IsTold site limits x event heard
+        → SameTurn w x a b said heard
+    event_same w x event a b said heard same one two =
+        let first : one.1.0 ≡ same.reply = told_once (step site limits w event) one.1.0 same.reply one.1.1 same.tells in
+        let second : two.1.0 ≡ same.reply = told_once (step site limits x event) two.1.0 same.reply two.1.1 same.tells_too in
+        subst (λ (l : List Event). SameTurn w x l b said heard) (sym one.0) (subst (λ (l : List Event). SameTurn w x (event ∷ []) l said heard) (sym two.0)
+        (record { texts = one.1.2 ∙ ap told_text (first ∙ sym second) ∙ sym two.1.2; alike = same.alike; ready = same.ready; ready_too = same.ready_too }))
+
+    nothing_same : (w x : World) (a b : List Event) (said heard text : Word) → Alike w x → IsReady w → IsReady x → (a ≡ []) × (said ≡ text) → (b ≡ []) × (heard ≡ text) → SameTurn w x a b said heard
+    nothing_same w x a b said heard text alike r q one two =
+        subst (λ (l : List Event). SameTurn w x l b said heard) (sym one.0) (subst (λ (l : List Event). SameTurn w x [] l said heard) (sym two.0)
+        (record { texts = one.1 ∙ sym two.1; alike = alike; ready = r; ready_too = q }))
+
+    turn_same : (w x : World) (number : ℕ) (c : Command) (a b : List Event) (said heard : Word) → Alike w x → IsReady w → IsReady x
+        → StandsFor site limits w number c a said → StandsFor site limits x number c b heard → SameTurn w x a b said heard
+    turn_same w x number (command.Commit commit) a b said heard alike r q one two = event_same w x (Comes commit) a b said heard (commit_same w x commit alike r q) one two
+    turn_same w x number command.Settle a b said heard alike r q one two =
+        let s = settles_same w x a b one.0 two.0 alike r q one.1 two.1 in
+        record {
+          texts = one.2
+              ∙ (λ i. settled_text (length (s.1.log i)) (length (s.1.log i) - length (alike.log i)) (s.0 i))
+              ∙ sym two.2;
+          alike = s.1;
+          ready = s.2;
+          ready_too = s.3;
+        }
+    turn_same w x number (command.Node node capacity mode) a b said heard alike r q one two =
+        event_same w x (Node node capacity mode) a b said heard (node_same w x node capacity mode alike r q) one two
+    turn_same w x number (command.Get node pass path) a b said heard alike r q one two =
+        event_same w x (Request node pass path false) a b said heard (request_same w x node pass path alike r q) one two
+    turn_same w x number command.Blank a b said heard alike r q one two = nothing_same w x a b said heard [] alike r q one two
+    turn_same w x number command.NotBuilt a b said heard alike r q one two = nothing_same w x a b said heard (not_built_text number) alike r q one two
+
+    behind : (before events : List Event) → run site limits (before ++ events) ≡ fold (step site limits) (run site limits before) events
+    behind before events = fold-append (step site limits) first_world before events
+
+    plays_same : (cs : List Command) (before start : List Event) (number : ℕ) (last out heard : Word) → Alike (run site limits before) (run site limits start) → IsReady (run site limits before) → IsReady (run site limits start)
+        → MachinePlays site limits before number cs last out → MachinePlays site limits start number cs last heard → out ≡ heard
+    plays_same [] before start number last out heard alike r q one two = one ∙ sym two
+    plays_same (c ∷ cs) before start number last out heard alike r q one two =
+        let t : SameTurn (run site limits before) (run site limits start) one.0 two.0 one.1.0 two.1.0 =
+        turn_same (run site limits before) (run site limits start) (number + 1) c one.0 two.0 one.1.0 two.1.0 alike r q one.1.1.1 two.1.1.1 in
+        let more : one.1.1.0 ≡ two.1.1.0 =
+        plays_same cs (before ++ one.0) (start ++ two.0) (number + 1) last one.1.1.0 two.1.1.0
+        (between (behind before one.0) (behind start two.0) t.alike) (subst IsReady (sym (behind before one.0)) t.ready) (subst IsReady (sym (behind start two.0)) t.ready_too) one.1.1.3 two.1.1.3 in
+        one.1.1.2 ∙ (λ i. t.texts i ++ more i) ∙ sym two.1.1.2
+
+    -- each command is answered
+    settle_exists : (w : World) → IsReady w → (events : List Event) × ((counts : Counts) × Settles site limits w events counts)
+    settle_exists w r = elim (target_case w.target (length w.commits)) [
+      | inl new ↦
+          let goes : step site limits w Begin ≡ told (Begins (Nothing (length w.commits))) w = begins_nothing site limits w earlier r.idle r.slot new in
+          let p : (n : ℕ) × LastTold (fold (step site limits) (step site limits w Begin) (publishes n)) NothingChanged = publishing_ends (step site limits w Begin) in
+          (Begin ∷ publishes p.0, (_, at_once (length w.commits) p.0 (w.replies, ap (λ u. u.replies) goes) p.1))
+      | inr other ↦
+          let is = settle_reports site limits w earlier r.idle other r.slot in
+          let p : (n : ℕ) × LastTold (fold (step site limits) (fold (step site limits) w (settling (length (expanded (target_content site w.commits w.target) (content site w.commits))) is.0)) (publishes n)) NothingChanged =
+          publishing_ends (fold (step site limits) w (settling (length (expanded (target_content site w.commits w.target) (content site w.commits))) is.0)) in
+          let goes = fold-append (step site limits) w (settling (length (expanded (target_content site w.commits w.target) (content site w.commits))) is.0) (publishes p.0) in (
+            settling (length (expanded (target_content site w.commits w.target) (content site w.commits))) is.0 ++ publishes p.0,
+            (
+              _,
+              by_work (length (expanded (target_content site w.commits w.target) (content site w.commits))) is.0 p.0 _ (is.1.front, is.1.report) (subst (λ u. LastTold u NothingChanged) (sym goes) p.1),
+            ),
+          )
+    ]
+
+    turn_exists : (w : World) (number : ℕ) (c : Command) → IsReady w → (events : List Event) × ((said : Word) × StandsFor site limits w number c events said)
+    turn_exists w number (command.Commit commit) r =
+        let same : SameStep w w (Comes commit) = commit_same w w commit (alike_itself w) r r in
+        (Comes commit ∷ [], (told_text same.reply, (refl, (same.reply, same.tells, refl))))
+    turn_exists w number command.Settle r =
+        let s : (events : List Event) × ((counts : Counts) × Settles site limits w events counts) = settle_exists w r in
+        (s.0, (settled_text (length (fold (step site limits) w s.0).log) (length (fold (step site limits) w s.0).log - length w.log) s.1.0, (s.1.0, s.1.1, refl)))
+    turn_exists w number (command.Node node capacity mode) r =
+        let same : SameStep w w (Node node capacity mode) = node_same w w node capacity mode (alike_itself w) r r in
+        (Node node capacity mode ∷ [], (told_text same.reply, (refl, (same.reply, same.tells, refl))))
+    turn_exists w number (command.Get node pass path) r =
+        let same : SameStep w w (Request node pass path false) = request_same w w node pass path (alike_itself w) r r in
+        (Request node pass path false ∷ [], (told_text same.reply, (refl, (same.reply, same.tells, refl))))
+    turn_exists w number command.Blank r = ([], ([], (refl, refl)))
+    turn_exists w number command.NotBuilt r = ([], (not_built_text number, (refl, refl)))
+
+    plays_from : (cs : List Command) (before : List Event) (number : ℕ) (last : Word) → IsReady (run site limits before) → (out : Word) × MachinePlays site limits before number cs last out
+    plays_from [] before number last r = (last, refl)
+    plays_from (c ∷ cs) before number last r =
+        let t : (events : List Event) × ((said : Word) × StandsFor site limits (run site limits before) (number + 1) c events said) = turn_exists (run site limits before) (number + 1) c r in
+        let next : IsReady (run site limits (before ++ t.0)) =
+        subst IsReady (sym (behind before t.0)) (turn_same (run site limits before) (run site limits before) (number + 1) c t.0 t.0 t.1.0 t.1.0 (alike_itself (run site limits before)) r r t.1.1 t.1.1).ready in
+        let rest : (out : Word) × MachinePlays site limits (before ++ t.0) (number + 1) cs last out = plays_from cs (before ++ t.0) (number + 1) last next in
+        (t.1.0 ++ rest.0, (t.0, (t.1.0, (rest.0, t.1.1, refl, rest.1))))
+
+pub starts_ready : StartsReady
+starts_ready = record { idle = refl; slot = fin.get-empty nat_cmp 0 }
+
+pub plays_exist : PlaysExist
+plays_exist site limits number commands last earlier = plays_from site limits earlier commands [] number last starts_ready
+
+pub plays_are_one : PlaysAreOne
+plays_are_one site limits number commands last a b earlier one two =
+    plays_same site limits earlier commands [] [] number last a b (alike_itself first_world) starts_ready starts_ready one two
+
+pub commands_leave_ready : CommandsLeaveReady
+commands_leave_ready site limits w number command events out earlier r stands =
+    (turn_same site limits earlier w w number command events events out out (alike_itself w) r r stands stands).ready
+
+-- what publishing leaves as it is
+module _ (site : Parts) (limits : Limits) where
+  published_keeps : (t : Target) (n : ℕ) (o : Option (List Path)) (w : World) → ((published_by t n o w).commits ≡ w.commits) × ((published_by t n o w).target ≡ w.target)
+  published_keeps t n None w = (refl, refl)
+  published_keeps t n (Some paths) w = (refl, refl)
+
+  publishes_keep : (n : ℕ) (w : World) → ((fold (step site limits) w (publishes n)).commits ≡ w.commits) × ((fold (step site limits) w (publishes n)).target ≡ w.target)
+  publishes_keep zero w = (refl, refl)
+  publishes_keep (suc n) w =
+      let one = published_keeps (target_of site w w.target) (version_of w.target) (next_of site limits w) w in
+      let rest = publishes_keep n (step site limits w Publish) in
+      (rest.0 ∙ one.0, rest.1 ∙ one.1)
+
+  all_done : (n : ℕ) (w : World) → (LastTold w NothingChanged → ⊥) → LastTold (fold (step site limits) w (publishes n)) NothingChanged → IsDone site limits (fold (step site limits) w (publishes n))
+  all_done zero w unpublished last = absurd (unpublished last)
+  all_done (suc n) w unpublished last =
+      subst (IsDone site limits) (sym (publishes_snoc site limits n w))
+      (done_after site limits (fold (step site limits) w (publishes n)) (subst (λ u. LastTold u NothingChanged) (publishes_snoc site limits n w) last))
+
+pub settles_leave_nothing : SettlesLeaveNothing
+settles_leave_nothing site limits w events counts earlier r settles =
+    let h : Outcome site limits w events counts = settle_comes site limits earlier w events counts r settles in
+    let keeps = publishes_keep site limits h.count h.before in
+    let ready : IsReady (fold (step site limits) h.before (publishes h.count)) = publishes_ready site limits h.count h.before h.ready in
+    let made : (fold (step site limits) h.before (publishes h.count)).target ≡ Some (length (fold (step site limits) h.before (publishes h.count)).commits) =
+    keeps.1 ∙ h.target ∙ ap (λ (cs : List Commit). Some (length cs)) (sym h.commits ∙ sym keeps.0) in
+    let done : IsDone site limits (fold (step site limits) h.before (publishes h.count)) = all_done site limits h.count h.before h.unpublished h.last in
+    subst (NothingPending site) (sym h.ends) (record {
+      idle = ready.idle;
+      made = made;
+      published = λ p.
+          ap (λ (t : Target). changed (looks (edition (fold (step site limits) h.before (publishes h.count)).log)) (target_looks t) p) (sym (last_target site (fold (step site limits) h.before (publishes h.count)) made))
+          ∙ (bundle_is_none (edition (fold (step site limits) h.before (publishes h.count)).log)
+          (target_of site (fold (step site limits) h.before (publishes h.count)) (fold (step site limits) h.before (publishes h.count)).target)).0 done p;
+    })

@@ -1,0 +1,31 @@
+-- The table of commands, by an equation each.
+use Rattle.std.specs.Prelude.{◌≡◌, ℕ, ◌<◌, ◌^◌, true, false, [], ◌∷◌, ◌++◌, codes}
+use Rattle.std.specs.Fmt.{decimal}
+use Rattle.std.specs.List.{list_all}
+use Rattle.dup_names.specs.Grammar.{is_path}
+use Rattle.dup_names.specs.LineWords.{is_space, spaced}
+use Rattle.dup_names.specs.Words.{Word}
+use Rattle.dup_transcript.specs.Commands.{Command, is_capacity, is_node, line_command}
+use Rattle.dup_transcript.specs.declared.command.Command.TheVariants.{Blank, Settle, Node, Get, NotBuilt}
+use Rattle.dup_model.specs.declared.mode.Mode.{Mode}
+use Rattle.dup_model.specs.declared.mode.Mode.TheVariants.{Invalidate, Update}
+
+abbrev pub mode_word : Mode → Word
+mode_word Update = codes "update"
+mode_word Invalidate = codes "invalidate"
+
+-- what each form of line commands, given what a feed message commands; `#` is 35
+pub record ReadsEach (feed : Word → Command) : Type 0 where
+  pub nothing : line_command feed [] ≡ Blank
+  pub space : (text : Word) → line_command feed (32 ∷ text) ≡ line_command feed text
+  pub comment : (text : Word) → line_command feed (35 ∷ text) ≡ Blank
+  pub commit : (message : Word) → list_all is_space message ≡ false → line_command feed (codes "commit " ++ message) ≡ feed message
+  pub no_message : (spaces : Word) → list_all is_space spaces ≡ true → line_command feed (codes "commit" ++ spaces) ≡ NotBuilt
+  pub settle : (spaces : Word) → list_all is_space spaces ≡ true → line_command feed (codes "settle" ++ spaces) ≡ Settle
+  pub node : (number capacity : ℕ) (mode : Mode) → is_node number ≡ true → is_capacity capacity ≡ true →
+      line_command feed (spaced (codes "node" ∷ decimal number ∷ decimal capacity ∷ mode_word mode ∷ [])) ≡ Node number capacity mode
+  pub get : (number pass : ℕ) (path : Word) → is_node number ≡ true → pass < 2 ^ 64 → is_path path ≡ true →
+      line_command feed (spaced (codes "get" ∷ decimal number ∷ decimal pass ∷ path ∷ [])) ≡ Get number pass path
+
+abbrev pub EachIsRead : Type 0
+EachIsRead = (feed : Word → Command) → ReadsEach feed

@@ -1,0 +1,43 @@
+-- What is written of the machine's replies.
+use Rattle.std.specs.Prelude.{ℕ, [], ◌++◌, codes, length}
+use Rattle.std.specs.Fmt.{decimal}
+use Rattle.dup_names.specs.Lines.{line}
+use Rattle.dup_names.specs.Words.{Word}
+use Rattle.dup_model.specs.Commits.{Refusal, UnknownKind, UnknownField, NoRow, KindFull, JournalFull}
+use Rattle.dup_model.specs.Editions.{Page}
+use Rattle.dup_machine.specs.World.{Counts, Told}
+use Rattle.dup_machine.specs.World.Told.{Committed, Refused, NodeMade, NodeTaken, NoNode, Found, Absent, Ahead}
+
+abbrev pub refusal_text : Refusal → Word
+refusal_text (UnknownKind n) = line (codes "refused unknown kind at " ++ decimal n)
+refusal_text (UnknownField n) = line (codes "refused unknown field at " ++ decimal n)
+refusal_text (NoRow n) = line (codes "refused no row at " ++ decimal n)
+refusal_text (KindFull n) = line (codes "refused kind full at " ++ decimal n)
+refusal_text (JournalFull commits bytes) = line (codes "refused journal full")
+
+-- a page of an edition: a line, and its bytes. Nothing is kept in a cache yet, so each is a miss
+abbrev pub found_text : ℕ → Page → Word
+found_text edition page =
+    line (codes "found " ++ decimal edition ++ codes " " ++ decimal page.version ++ codes " miss " ++ decimal (length page.look.bytes)) ++ line page.look.bytes
+
+-- what is written of one reply, of those that a script meets today
+abbrev pub told_text : Told → Word
+told_text (Committed version) = line (codes "committed " ++ decimal version)
+told_text (Refused why) = refusal_text why
+told_text (NodeMade node) = line (codes "node " ++ decimal node)
+told_text (NodeTaken node) = line (codes "node " ++ decimal node ++ codes " taken")
+told_text (NoNode node) = line (codes "no node " ++ decimal node)
+told_text (Found edition page how) = found_text edition page
+told_text (Absent edition) = line (codes "absent " ++ decimal edition)
+told_text (Ahead pass edition) = line (codes "ahead " ++ decimal pass ++ codes " " ++ decimal edition)
+told_text _ = []
+
+-- what is written of settling: the edition, the bundles that made it, and what the work's report says
+abbrev pub settled_text : ℕ → ℕ → Counts → Word
+settled_text edition bundles counts =
+    line (codes "settled " ++ decimal counts.version ++ codes " edition " ++ decimal edition ++ codes " bundles " ++ decimal bundles
+    ++ codes " expanded " ++ decimal counts.expanded ++ codes " joined " ++ decimal counts.joined ++ codes " kept " ++ decimal counts.kept)
+
+-- what is written of a line that isn't built
+abbrev pub not_built_text : ℕ → Word
+not_built_text number = line (codes "not built " ++ decimal number)

@@ -1,0 +1,22 @@
+use dup_model::Mode;
+use dup_names::Path;
+
+/// What a line of a script asks, where `C` is the form that commits have. What stands for a line that
+/// isn't built writes `not built`.
+#[derive(Drop)]
+pub enum Command<C> {
+    Blank,
+    Commit(C),
+    Settle,
+    Node {
+        number: u16,
+        capacity: u32,
+        mode: Mode,
+    },
+    Get {
+        node: u16,
+        pass: u64,
+        path: Path,
+    },
+    NotBuilt,
+}

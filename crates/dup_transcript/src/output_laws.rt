@@ -1,0 +1,61 @@
+//! What is read of an input, and what is written for it.
+ghost use Rattle.dup_transcript.specs.CommandTable.{EachIsRead};
+ghost use Rattle.dup_transcript.specs.MachinePlays.{
+  CommandsLeaveReady,
+  PlaysAreOne,
+  PlaysExist,
+  SettlesLeaveNothing,
+  StartsReady,
+};
+ghost use Rattle.dup_transcript.specs.Numbers.{NumbersAreDecimal};
+ghost use Rattle.dup_transcript.specs.RowCounts.{RowsAreCounted};
+ghost use Rattle.dup_transcript.specs.RowPages.{RowsHavePages};
+ghost use Rattle.dup_transcript.specs.Sessions.{SessionsAreTheMachines};
+ghost use Rattle.dup_transcript.specs.Transcript.{TranscriptsAreOne, TranscriptsExist};
+ghost use Rattle.dup_transcript.specs.WrittenLines.{LinesAreFound, LinesAreRead};
+
+/// Lines that are written one after another are the lines that are read, and those of the text.
+pub fn lines_law()
+    ensures read { LinesAreRead }
+    ensures found { LinesAreFound }
+{}
+
+/// The numbers that words write are those whose decimal texts they are.
+pub fn numbers_law()
+    ensures { NumbersAreDecimal }
+{}
+
+/// What each form of line commands.
+pub fn commands_law()
+    ensures { EachIsRead }
+{}
+
+/// Each input has one transcript.
+pub fn transcripts_law()
+    ensures exist { TranscriptsExist }
+    ensures one { TranscriptsAreOne }
+{}
+
+/// The machine answers each list of commands, and in one way. No work is open between two commands, and once settled, nothing is pending.
+pub fn plays_law()
+    ensures exist { PlaysExist }
+    ensures one { PlaysAreOne }
+    ensures starts { StartsReady }
+    ensures ready { CommandsLeaveReady }
+    ensures settled { SettlesLeaveNothing }
+{}
+
+/// In a site of the first form each row has a page, in the order of the keys, and nothing else has one.
+pub fn row_pages_law()
+    ensures { RowsHavePages }
+{}
+
+/// In such a site what is expanded, joined and kept from one settle to the next are counts of rows.
+pub fn row_counts_law()
+    ensures { RowsAreCounted }
+{}
+
+/// In such a site, where each commit is one put, what a script is answered may be told without events of the machine.
+pub fn sessions_law()
+    ensures { SessionsAreTheMachines }
+{}
