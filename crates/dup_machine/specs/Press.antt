@@ -38,7 +38,8 @@ committed c why w = told (commit_told w.commits why) (record w { commits = unles
 -- this work is open at the last version
 abbrev pub opened : Parts → Work → World → World
 opened site work w =
-    told (Begins (Opened work.version (length (waiting (at site w work.version) work.done)))) (record w { work = Some work })
+    told (Begins (Opened work.version (length (waiting (at site w work.version) work.done))))
+    (record w { work = Some work })
 
 -- `begin`, with the open work and the version of the target, if any
 abbrev pub begun : Parts → Option Work → Option ℕ → World → World
@@ -54,18 +55,23 @@ begun site None (Some a) w =
 abbrev pub handed_to : ℕ → Work → Option Obj → World → World
 handed_to slot work None w = told NoneWaits w
 handed_to slot work (Some o) w =
-    told (Handed o) (record w { work = Some (record work { last_handed = Some o }); slots = fin.insert w.slots slot (record { obj = o; version = work.version }) })
+    told (Handed o) (record w {
+      work = Some (record work { last_handed = Some o });
+      slots = fin.insert w.slots slot (record { obj = o; version = work.version });
+    })
 
 -- `hand`, with the open work and what the slot holds, if anything
 abbrev pub handed : Parts → ℕ → Option Work → Option Slot → World → World
 handed site slot work (Some held) w = told (SlotBusy slot) w
 handed site slot None None w = told NoneWaits w
-handed site slot (Some work) None w = handed_to slot work (next_of work.last_handed (waiting (at site w work.version) work.done)) w
+handed site slot (Some work) None w =
+    handed_to slot work (next_of work.last_handed (waiting (at site w work.version) work.done)) w
 
 -- an expansion that is asked for, whose first stale note is this, if any
 abbrev pub kept : Content → Obj → Work → Option (Item × Value) → World → World
 kept c o work (Some note) w = told (Stale note.0 note.1 (value c note.0)) w
-kept c o work None w = told (Kept o (length (waiting c (with_done o work).done))) (record w { work = Some (with_done o work) })
+kept c o work None w =
+    told (Kept o (length (waiting c (with_done o work).done))) (record w { work = Some (with_done o work) })
 
 -- an expansion of o with these notes is brought back
 abbrev pub put_back : Parts → Obj → List (Item × Value) → Option Work → World → World
@@ -74,17 +80,20 @@ put_back site o ns (Some work) w =
     let c = at site w work.version in
     if is_in (waiting c work.done) o then kept c o work (stale c ns) w else told (Unasked o) w
 
--- `put`, with what the slot holds, if anything: the object is expanded over the content of the job, and the slot is emptied
+-- `put`, with what the slot holds, if anything: the object is expanded over the content of the job, and the
+-- slot is emptied
 abbrev pub put_from : Parts → ℕ → Option Slot → World → World
 put_from site slot None w = told (SlotEmpty slot) w
 put_from site slot (Some held) w =
-    put_back site held.obj (notes (at site w held.version) held.obj) w.work (record w { slots = fin.remove w.slots slot })
+    put_back site held.obj (notes (at site w held.version) held.obj) w.work
+    (record w { slots = fin.remove w.slots slot })
 
 -- `join` in an open work, by what waits, what has no look, and the next level
 abbrev pub joined_by : Work → List Obj → List Obj → List Obj → World → World
 joined_by work (o ∷ os) us level w = told (Joins (Joined.Waiting (length (o ∷ os)))) w
 joined_by work [] [] level w = told (Joins Joined.Done) w
-joined_by work [] (u ∷ us) level w = told (Joins (Joined.Level (length level))) (record w { work = Some (with_joined level work) })
+joined_by work [] (u ∷ us) level w =
+    told (Joins (Joined.Level (length level))) (record w { work = Some (with_joined level work) })
 
 abbrev pub joined : Parts → Option Work → World → World
 joined site None w = told (Joins Joined.Idle) w
@@ -97,7 +106,12 @@ abbrev pub finished_by : Content → Work → List Obj → List Obj → World �
 finished_by c work (o ∷ os) us w = told (Finished (Ended.Waiting (length (o ∷ os)))) w
 finished_by c work [] (u ∷ us) w = told (Finished (Ended.Unjoined (length (u ∷ us)))) w
 finished_by c work [] [] w =
-    told (Finished (Ended.Report (record { version = work.version; expanded = work.expanded; joined = work.joined; kept = length (without (is_in work.once) (live c)) })))
+    told (Finished (Ended.Report (record {
+      version = work.version;
+      expanded = work.expanded;
+      joined = work.joined;
+      kept = length (without (is_in work.once) (live c));
+    })))
     (record w { target = Some work.version; work = None })
 
 abbrev pub finished : Parts → Option Work → World → World
@@ -120,8 +134,11 @@ abbrev pub published_by : Target → ℕ → Option (List Path) → World → Wo
 published_by t v None w = told NothingChanged w
 published_by t v (Some paths) w =
     let b = bundle_of t v (drop (length (history w.log)) (take v w.commits)) paths in
-    told (Published (length w.log + 1) v (length b.puts) (length b.drops)) (record w { log = w.log ++ b ∷ [] })
+    told (Published (length w.log + 1) v (length b.puts) (length b.drops)) (record w {
+      log = w.log ++ b ∷ [];
+    })
 
 abbrev pub published : Parts → Option ℕ → World → World
 published site target w =
-    published_by (target_of site w target) (version_of target) (bundle (edition w.log) (target_of site w target)) w
+    published_by (target_of site w target) (version_of target)
+    (bundle (edition w.log) (target_of site w target)) w

@@ -50,7 +50,8 @@ counts_of a b v = record {
 -- the work that is open once `begin` was called over an open work: the same, or moved to the last version
 abbrev pub begun_work : Parts → World → Work → Work
 begun_work site w work =
-    if work.version == length w.commits then work else moved (at site w work.version) (length w.commits) (content site w.commits) work
+    if work.version == length w.commits then work
+    else moved (at site w work.version) (length w.commits) (content site w.commits) work
 
 -- the counts of a work that is open at version v with content b: what it did before, and what it has left
 abbrev pub counts_from : Content → ℕ → Work → Counts
@@ -61,7 +62,8 @@ counts_from b v work = record {
   kept = length (filter (λ o. is_in work.looked o && not (is_in work.once o)) (live b));
 }
 
--- no work is open any more, the target is of the last version, the slot is empty, and the last reply is this report; all else is as it was
+-- no work is open any more, the target is of the last version, the slot is empty, and the last reply is this
+-- report; all else is as it was
 pub record IsSettled (w : World) (counts : Counts) (v : World) : Type 0 where
   pub idle : v.work ≡ None
   pub target : v.target ≡ Some (length w.commits)
@@ -72,24 +74,31 @@ pub record IsSettled (w : World) (counts : Counts) (v : World) : Type 0 where
   pub front : List Told
   pub report : v.replies ≡ front ++ Finished (Report counts) ∷ []
 
--- from a state with no work, whose target isn't of the last version, settling hands just what is to be expanded, and reports
+-- from a state with no work, whose target isn't of the last version, settling hands just what is to be
+-- expanded, and reports
 abbrev pub SettleReports : Type 0
 SettleReports = (site : Parts) (limits : Limits) (w : World) → EmbedsEarlier (start site) →
     w.work ≡ None → (w.target ≡ Some (length w.commits) → ⊥) → fin.get w.slots 0 ≡ None →
-    (m : ℕ) × IsSettled w (counts_of (target_content site w.commits w.target) (content site w.commits) (length w.commits))
-    (fold (step site limits) w (settling (length (expanded (target_content site w.commits w.target) (content site w.commits))) m))
+    (m : ℕ)
+    × IsSettled w (counts_of (target_content site w.commits w.target) (content site w.commits)
+    (length w.commits))
+    (fold (step site limits) w
+    (settling (length (expanded (target_content site w.commits w.target) (content site w.commits))) m))
 
 -- where the target is of the last version, the same counts say that nothing is done
 abbrev pub NothingIsDone : Type 0
-NothingIsDone = (c : Content) (v : ℕ) → counts_of (Some c) c v ≡ record { version = v; expanded = 0; joined = 0; kept = length (live c) }
+NothingIsDone = (c : Content) (v : ℕ) →
+    counts_of (Some c) c v ≡ record { version = v; expanded = 0; joined = 0; kept = length (live c) }
 
--- from a state with an open work, at whatever version, settling hands what is left, and reports the whole work
+-- from a state with an open work, at whatever version, settling hands what is left, and reports the whole
+-- work
 abbrev pub SettleResumes : Type 0
 SettleResumes = (site : Parts) (limits : Limits) (w : World) (work : Work) → EmbedsEarlier (start site) →
     w.work ≡ Some work → fin.get w.slots 0 ≡ None → work.expanded ≤ 2 ^ 64 - 1 → work.joined ≤ 2 ^ 64 - 1 →
     let begun = begun_work site w work in
     (m : ℕ) × IsSettled w (counts_from (content site w.commits) (length w.commits) begun)
-    (fold (step site limits) w (settling (length (without (is_in begun.done) (live (content site w.commits)))) m))
+    (fold (step site limits) w
+    (settling (length (without (is_in begun.done) (live (content site w.commits)))) m))
 
 -- the press is as it was but for its log, and no path is changed
 pub record IsPublished (site : Parts) (w : World) (v : World) : Type 0 where
@@ -100,9 +109,12 @@ pub record IsPublished (site : Parts) (w : World) (v : World) : Type 0 where
 
 -- publishing comes to an end
 abbrev pub PublishEnds : Type 0
-PublishEnds = (site : Parts) (limits : Limits) (w : World) → (n : ℕ) × IsPublished site w (fold (step site limits) w (publishes n))
+PublishEnds = (site : Parts) (limits : Limits) (w : World) → (n : ℕ)
+    × IsPublished site w (fold (step site limits) w (publishes n))
 
 -- from every state, settling and publishing leave nothing pending
 abbrev pub SettleEnds : Type 0
-SettleEnds = (site : Parts) (limits : Limits) (w : World) → EmbedsEarlier (start site) → fin.get w.slots 0 ≡ None →
-    (k : ℕ) × ((m : ℕ) × ((n : ℕ) × NothingPending site (fold (step site limits) w (settling k m ++ publishes n))))
+SettleEnds = (site : Parts) (limits : Limits) (w : World) → EmbedsEarlier (start site) →
+    fin.get w.slots 0 ≡ None →
+    (k : ℕ) × ((m : ℕ) × ((n : ℕ)
+    × NothingPending site (fold (step site limits) w (settling k m ++ publishes n))))

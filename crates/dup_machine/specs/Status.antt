@@ -15,7 +15,8 @@ use Rattle.dup_machine.specs.Press.{target_of}
 pub record NothingPending (site : Parts) (w : World) : Type 0 where
   pub idle : w.work ≡ None
   pub made : w.target ≡ Some (length w.commits)
-  pub published : (p : Path) → changed (looks (edition w.log)) (target_looks (target (content site w.commits))) p ≡ false
+  pub published : (p : Path) →
+      changed (looks (edition w.log)) (target_looks (target (content site w.commits))) p ≡ false
 
 abbrev pub is_of : ℕ → Option ℕ → Bool
 is_of version None = false
@@ -23,9 +24,11 @@ is_of version (Some v) = v == version
 
 -- a work is open, or no target was made of the last version, or there is a bundle to publish
 abbrev pub is_pending : Parts → World → Bool
-is_pending site w = is_some w.work || not (is_of (length w.commits) w.target) || is_some (bundle (edition w.log) (target_of site w w.target))
+is_pending site w = is_some w.work || not (is_of (length w.commits) w.target)
+    || is_some (bundle (edition w.log) (target_of site w w.target))
 
--- the last version, those of the work and the target, the number of the newest edition, and whether something is pending
+-- the last version, those of the work and the target, the number of the newest edition, and whether something
+-- is pending
 pub record Status : Type 0 where
   pub version : ℕ
   pub work : Option ℕ

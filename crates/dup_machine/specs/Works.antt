@@ -23,7 +23,15 @@ level c work = filter (λ o. list_all (is_in work.looked) (embeds c o)) (unjoine
 
 -- a work at a version, from no target
 abbrev pub first_work : ℕ → Work
-first_work v = record { version = v; last_handed = None; done = []; looked = []; once = []; expanded = 0; joined = 0 }
+first_work v = record {
+  version = v;
+  last_handed = None;
+  done = [];
+  looked = [];
+  once = [];
+  expanded = 0;
+  joined = 0;
+}
 
 -- a work at version v with content b, from a target with content a
 abbrev pub work_from : Content → ℕ → Content → Work

@@ -12,7 +12,8 @@ use Rattle.dup_model.specs.Caches.{Cache}
 use Rattle.dup_model.specs.declared.mode.Mode.{Mode}
 use Rattle.dup_model.specs.Answers.{Reply, How}
 
--- a work: its version, the object last handed, the objects whose skeletons and whose looks it has, those that it joined, and two counts
+-- a work: its version, the object last handed, the objects whose skeletons and whose looks it has, those that
+-- it joined, and two counts
 pub record Work : Type 0 where
   pub version : ℕ
   pub last_handed : Option Obj
@@ -85,7 +86,8 @@ answered (Reply.Found e page how) = Told.Found e page how
 answered (Reply.Absent e) = Told.Absent e
 answered (Reply.Ahead pass e) = Told.Ahead pass e
 
--- the commits that came, the version of the target, the open work, the log, the caches of the nodes and the filled slots by their numbers, and the replies
+-- the commits that came, the version of the target, the open work, the log, the caches of the nodes and the
+-- filled slots by their numbers, and the replies
 pub record World : Type 0 where
   pub commits : List Commit
   pub target : Option ℕ
@@ -111,7 +113,15 @@ pub data Event : Type 0 where
 
 -- before the first event
 abbrev pub first_world : World
-first_world = record { commits = []; target = None; work = None; log = []; nodes = fin.empty; slots = fin.empty; replies = [] }
+first_world = record {
+  commits = [];
+  target = None;
+  work = None;
+  log = [];
+  nodes = fin.empty;
+  slots = fin.empty;
+  replies = [];
+}
 
 -- the reply is given, and the rest stands
 abbrev pub told : Told → World → World

@@ -51,9 +51,11 @@ pub record Keeps (s : Session) (r : Kept) : Type 0 where
 -- what a command does, and the text that it is answered
 abbrev pub Acts : Kept → Kept → ℕ → Command → Word → Type 0
 Acts old new number command text =
-    (s : Session) → Keeps s old → Keeps (after_command old.site.value s command) new × (text ≡ play_answer old.site.value s number command)
+    (s : Session) → Keeps s old → Keeps (after_command old.site.value s command) new
+        × (text ≡ play_answer old.site.value s number command)
 
--- what holds whatever was done: the site is of the first form, the contents are its own, and each commit made one row at most
+-- what holds whatever was done: the site is of the first form, the contents are its own, and each commit made
+-- one row at most
 pub record IsReady (r : Kept) : Type 0 where
   pub form : is_first_form r.site.value ≡ true
   pub of_site : IsOf r.site.value r.content

@@ -5,10 +5,12 @@ use Rattle.dup_names.specs.Lines.{Reading, reading}
 use Rattle.dup_names.specs.Words.{Word}
 use Rattle.dup_transcript.specs.Inputs.{script}
 
--- what a source has left stands behind the site text of a reading; but for a piece of at most 4,096 bytes it is all that does
+-- what a source has left stands behind the site text of a reading; but for a piece of at most 4,096 bytes it
+-- is all that does
 abbrev pub LeavesScript : Option Reading → Option Word → Type 0
 LeavesScript (Some all) (Some left) =
-    (piece : Word) × (number : ℕ) × (taken : ℕ) × (length piece ≤ 4096) × (script all ≡ reading number taken (piece ++ left))
+    (piece : Word) × (number : ℕ) × (taken : ℕ) × (length piece ≤ 4096)
+        × (script all ≡ reading number taken (piece ++ left))
 LeavesScript _ _ = Unit {0}
 
 -- where the source tells its bytes, no more of them was read than the site text and that piece

@@ -55,7 +55,8 @@ CountsSite (Some all) before behind = before + site_lines all ≡ behind
 -- the reading stops within the site text
 abbrev pub StopsInSite : Stop → Option Reading → Type 0
 StopsInSite stop None = IsReadingStop stop
-StopsInSite stop (Some all) = (cuts stop ≡ true → (site_is_read all ≡ false) × (ending all ≡ 7)) × IsTooLong stop (too_long all)
+StopsInSite stop (Some all) = (cuts stop ≡ true → (site_is_read all ≡ false) × (ending all ≡ 7))
+    × IsTooLong stop (too_long all)
 
 -- the line that is written at a stop, and the status
 abbrev pub stop_text : Stop → Word
@@ -76,10 +77,12 @@ WritesScript may None old new = Unit {0}
 WritesScript may (Some all) old new = (out : Word) × (ending all ≡ 0) × may all out × Appends old new out
 
 -- a line that is too long ends these lines: the answers before it were written
-abbrev pub StopsInScript : Stop → (Reading → Word → Type 0) → Option Reading → Option Word → Option Word → Type 0
+abbrev pub StopsInScript : Stop → (Reading → Word → Type 0) → Option Reading → Option Word → Option Word →
+    Type 0
 StopsInScript stop may None old new = IsReadingStop stop ⊎ (stop ≡ WriteFault)
 StopsInScript stop may (Some all) old new =
-    (cuts stop ≡ true → (done : Word) × (ending all ≡ 7) × may all (done ++ stop_text stop) × Appends old new done)
+    (cuts stop ≡ true → (done : Word) × (ending all ≡ 7) × may all (done ++ stop_text stop)
+        × Appends old new done)
     × (IsReadingStop stop ⊎ (stop ≡ WriteFault))
 
 abbrev pub writes : Stop → Bool
@@ -91,7 +94,9 @@ writes stop = cuts stop
 abbrev pub StopsAt : Task → Stop → Option Word → Option Word → Option Word → Type 0
 StopsAt task stop None old new = Unit {0}
 StopsAt task stop (Some input) old new =
-    writes stop ≡ true → (done : Word) × IsTranscript grammars task (reading 0 0 input) (stop_status stop) (done ++ stop_text stop) × Appends old new done
+    writes stop ≡ true → (done : Word)
+        × IsTranscript grammars task (reading 0 0 input) (stop_status stop) (done ++ stop_text stop)
+        × Appends old new done
 
 -- a text without a site that the task takes, whose line stands in its place; or want of memory
 abbrev pub BarsSite : Stop → Result Parts Word → Type 0

@@ -12,4 +12,5 @@ use Rattle.dup_model.specs.Versions.{content}
 abbrev pub Takes : Content → Content → ℕ → Command → Word → Type 0
 Takes old new number command text =
     (site : Parts) (commits : List Commit) → old ≡ content site commits
-    → (new ≡ content site (accepted site commits command)) × (text ≡ render_answer site commits number command)
+    → (new ≡ content site (accepted site commits command))
+        × (text ≡ render_answer site commits number command)

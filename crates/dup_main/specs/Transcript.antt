@@ -18,4 +18,5 @@ usage = line (codes "usage: dup_top play | check | render | games N | serve PORT
 -- where source and sink tell their bytes, the sink's grew by a transcript of the source's
 abbrev pub WritesTranscript : Task → Option Word → Option Word → Option Word → ℕ → Type 0
 WritesTranscript task None old new status = Unit {0}
-WritesTranscript task (Some input) old new status = (out : Word) × IsTranscript grammars task (reading 0 0 input) status out × Appends old new out
+WritesTranscript task (Some input) old new status = (out : Word)
+    × IsTranscript grammars task (reading 0 0 input) status out × Appends old new out

@@ -30,10 +30,12 @@ fn rendered_page(alloc: Global, content: &Content, page: &(Path, Obj)) -> Result
     Ok(text)
 }
 
-/// Writes each page in the order of the paths. Each is shown from scratch, and only one is in memory at a time.
+/// Writes each page in the order of the paths. Each is shown from scratch, and only one is in memory at a
+/// time.
 pub(crate) fn put_pages<K: Sink>(alloc: Global, content: &Content, out: &mut K) -> Result<(), Stop>
     requires { JobsFit content.now }
-    ensures written { OnOk result (Appends (K.written out.old) (K.written out.new) (rendered_pages content.now)) }
+    ensures written { OnOk result (Appends (K.written out.old) (K.written out.new)
+        (rendered_pages content.now)) }
     ensures stopped { IfErr result (λ stop. (stop ≡ Stop.NoMemory) ⊎ (stop ≡ Stop.WriteFault)) }
     ensures write_fault { IsErrOf result Stop.WriteFault → Rose (K.faults out.old) (K.faults out.new) }
     ensures no_write_fault { result ≢ Err Stop.WriteFault → K.faults out.new ≡ K.faults out.old }

@@ -12,15 +12,18 @@ use dup_io::{Lines, Sink, Source, put_all};
 use dup_site::site_text;
 use std::alloc::Global;
 
-/// Reads a site text, and writes the canonical text of its site. Of what stands behind `---` it reads a piece of 4,096 bytes at most.
+/// Reads a site text, and writes the canonical text of its site. Of what stands behind `---` it reads a piece
+/// of 4,096 bytes at most.
 pub(crate) fn check_site<S: Source, K: Sink>(
     alloc: Global,
     input: &mut S,
     out: &mut K,
 ) -> Result<(), Stop>
-    ensures written { OnOk result (WritesTranscript Check (S.left input.old) (K.written out.old) (K.written out.new) 0) }
+    ensures written { OnOk result (WritesTranscript Check (S.left input.old) (K.written out.old)
+        (K.written out.new) 0) }
     ensures no_further { OnOk result (ReadsNoFurther (S.left input.old) (S.left input.new)) }
-    ensures stopped { IfErr result (λ stop. StopsAt Check stop (S.left input.old) (K.written out.old) (K.written out.new)) }
+    ensures stopped { IfErr result (λ stop. StopsAt Check stop (S.left input.old) (K.written out.old)
+        (K.written out.new)) }
     ensures read_fault { IsErrOf result Stop.ReadFault → Rose (S.faults input.old) (S.faults input.new) }
     ensures no_read_fault { result ≢ Err Stop.ReadFault → S.faults input.new ≡ S.faults input.old }
     ensures write_fault { IsErrOf result Stop.WriteFault → Rose (K.faults out.old) (K.faults out.new) }

@@ -37,7 +37,8 @@ fn read_mode(word: &[u8]) -> Option<Mode>
 }
 
 fn node_command(number: &[u8], capacity: &[u8], mode: &[u8]) -> Command<Commit>
-    ensures command { result ≡ node_command (number_of number.now) (number_of capacity.now) (mode_of mode.now) }
+    ensures command { result ≡ node_command (number_of number.now) (number_of capacity.now)
+        (mode_of mode.now) }
     ensures one { HasOneChange result }
 {
     match (read_number(number), read_number(capacity), read_mode(mode)) {

@@ -61,7 +61,8 @@ fn is_renewed(a: &Option<Content>, b: &Content, key: &Key) -> bool
     }
 }
 
-/// How many rows are new, or have a field that differs and that the template reads. It looks at each row once.
+/// How many rows are new, or have a field that differs and that the template reads. It looks at each row
+/// once.
 pub(crate) fn renewed_count(a: &Option<Content>, b: &Content) -> usize
     requires { IsSimple a.now }
     ensures value { result ≡ renewed_count a.now b.now }

@@ -34,7 +34,8 @@ fn too_long_line(alloc: Global, number: u64) -> Result<String, AllocError>
 /// Writes a last text and gives the status, or 4 where the sink fails.
 fn end<K: Sink>(out: &mut K, status: u8, text: &[u8]) -> u8
     requires { status ≢ 4 }
-    ensures done { result ≢ 4 → (result ≡ status) × (K.faults out.new ≡ K.faults out.old) × Appends (K.written out.old) (K.written out.new) text.now }
+    ensures done { result ≢ 4 → (result ≡ status) × (K.faults out.new ≡ K.faults out.old)
+        × Appends (K.written out.old) (K.written out.new) text.now }
     ensures fault { result ≡ 4 → Rose (K.faults out.old) (K.faults out.new) }
     ensures either { (result ≡ 4) ⊎ (result ≡ status) }
 {
@@ -48,7 +49,8 @@ fn end<K: Sink>(out: &mut K, status: u8, text: &[u8]) -> u8
 fn finish<K: Sink>(alloc: Global, out: &mut K, stop: Stop) -> u8
     ensures read { result ≡ 3 → stop ≡ Stop.ReadFault }
     ensures memory { result ≡ 6 → stop ≢ Stop.ReadFault × stop ≢ Stop.WriteFault }
-    ensures written { (result ≡ 5) ⊎ (result ≡ 7) → (writes stop ≡ true) × (result ≡ stop_status stop) × Appends (K.written out.old) (K.written out.new) (stop_text stop) }
+    ensures written { (result ≡ 5) ⊎ (result ≡ 7) → (writes stop ≡ true) × (result ≡ stop_status stop)
+        × Appends (K.written out.old) (K.written out.new) (stop_text stop) }
     ensures fault { result ≡ 4 → (stop ≡ Stop.WriteFault) ⊎ Rose (K.faults out.old) (K.faults out.new) }
     ensures write { stop ≡ Stop.WriteFault → (result ≡ 4) × (K.faults out.new ≡ K.faults out.old) }
     ensures no_fault { result ≢ 4 → K.faults out.new ≡ K.faults out.old }
@@ -78,10 +80,13 @@ fn perform<S: Source, K: Sink>(
     input: &mut S,
     out: &mut K,
 ) -> Result<(), Stop>
-    ensures written { OnOk result (WritesTranscript task (S.left input.old) (K.written out.old) (K.written out.new) 0) }
+    ensures written { OnOk result (WritesTranscript task (S.left input.old) (K.written out.old)
+        (K.written out.new) 0) }
     ensures at_end { OnOk result ((task ≡ Task.Play) ⊎ (task ≡ Task.Render) → IsAtEnd (S.left input.new)) }
-    ensures no_further { OnOk result (task ≡ Task.Check → ReadsNoFurther (S.left input.old) (S.left input.new)) }
-    ensures stopped { IfErr result (λ stop. StopsAt task stop (S.left input.old) (K.written out.old) (K.written out.new)) }
+    ensures no_further { OnOk result (task ≡ Task.Check →
+        ReadsNoFurther (S.left input.old) (S.left input.new)) }
+    ensures stopped { IfErr result (λ stop. StopsAt task stop (S.left input.old) (K.written out.old)
+        (K.written out.new)) }
     ensures read_fault { IsErrOf result Stop.ReadFault → Rose (S.faults input.old) (S.faults input.new) }
     ensures no_read_fault { result ≢ Err Stop.ReadFault → S.faults input.new ≡ S.faults input.old }
     ensures write_fault { IsErrOf result Stop.WriteFault → Rose (K.faults out.old) (K.faults out.new) }
@@ -96,14 +101,18 @@ fn perform<S: Source, K: Sink>(
 
 /// Does what the words say, and gives the status. The words are those after the program's own name.
 ///
-/// - 0: `play` read its input to the end and wrote its transcript; `check` read a good site text, up to `---` or the end and at most 4,096 bytes further, and wrote its canonical text; `render` read its input to the end and wrote each page of the last content.
+/// - 0: `play` read its input to the end and wrote its transcript; `check` read a good site text, up to `---`
+///   or the end and at most 4,096 bytes further, and wrote its canonical text; `render` read its input to the
+///   end and wrote each page of the last content.
 /// - 2: the words are no command line that is known; nothing was read, and the usage line was written.
 /// - 3: the source failed; 4: the sink failed, whatever else was found.
-/// - 5: the site text was read whole, and is no good site, or for `play` none of the form that can be played: the line says why.
+/// - 5: the site text was read whole, and is no good site, or for `play` none of the form that can be played:
+///   the line says why.
 /// - 6: want of memory.
 /// - 7: a line of over 262,144 bytes was read, or over 2^30 bytes of input.
 ///
-/// A settle costs what rendering each row's page costs, and a render ends with each page from scratch; a commit copies the list of the kind's rows; a request is a look-up.
+/// A settle costs what rendering each row's page costs, and a render ends with each page from scratch; a
+/// commit copies the list of the kind's rows; a request is a look-up.
 pub fn desk_main<R: Threads + Sync, S: Source, K: Sink>(
     _rt: &R,
     alloc: Global,
@@ -114,15 +123,22 @@ pub fn desk_main<R: Threads + Sync, S: Source, K: Sink>(
     // Wrong words: nothing is read, and the usage line is written.
     ensures bad_words { task_of words.now ≡ None → (result ≡ 2) ⊎ (result ≡ 4) }
     ensures nothing_read { task_of words.now ≡ None → input.new ≡ input.old }
-    ensures usage { result ≡ 2 → (task_of words.now ≡ None) × Appends (K.written out.old) (K.written out.new) usage }
+    ensures usage { result ≡ 2 → (task_of words.now ≡ None)
+        × Appends (K.written out.old) (K.written out.new) usage }
     // What is written is the task's transcript of the bytes read, and the status is its own.
-    ensures whole { result ≡ 0 → IsSomeAnd (task_of words.now) (λ task. WritesTranscript task (S.left input.old) (K.written out.old) (K.written out.new) 0) }
-    ensures at_end { result ≡ 0 → (task_of words.now ≡ Some Task.Play) ⊎ (task_of words.now ≡ Some Task.Render) → IsAtEnd (S.left input.new) }
-    ensures no_further { result ≡ 0 → task_of words.now ≡ Some Task.Check → ReadsNoFurther (S.left input.old) (S.left input.new) }
-    ensures bad_site { result ≡ 5 → IsSomeAnd (task_of words.now) (λ task. WritesTranscript task (S.left input.old) (K.written out.old) (K.written out.new) 5) }
-    ensures too_long { result ≡ 7 → IsSomeAnd (task_of words.now) (λ task. WritesTranscript task (S.left input.old) (K.written out.old) (K.written out.new) 7) }
+    ensures whole { result ≡ 0 →
+        IsSomeAnd (task_of words.now) (λ task. WritesTranscript task (S.left input.old) (K.written out.old) (K.written out.new) 0) }
+    ensures at_end { result ≡ 0 → (task_of words.now ≡ Some Task.Play)
+        ⊎ (task_of words.now ≡ Some Task.Render) → IsAtEnd (S.left input.new) }
+    ensures no_further { result ≡ 0 → task_of words.now ≡ Some Task.Check →
+        ReadsNoFurther (S.left input.old) (S.left input.new) }
+    ensures bad_site { result ≡ 5 →
+        IsSomeAnd (task_of words.now) (λ task. WritesTranscript task (S.left input.old) (K.written out.old) (K.written out.new) 5) }
+    ensures too_long { result ≡ 7 →
+        IsSomeAnd (task_of words.now) (λ task. WritesTranscript task (S.left input.old) (K.written out.old) (K.written out.new) 7) }
     // A fault is answered only where it happened, and none is passed over.
-    ensures read_fault { result ≡ 3 → IsSome (task_of words.now) × Rose (S.faults input.old) (S.faults input.new) }
+    ensures read_fault { result ≡ 3 → IsSome (task_of words.now)
+        × Rose (S.faults input.old) (S.faults input.new) }
     ensures write_fault { result ≡ 4 → Rose (K.faults out.old) (K.faults out.new) }
     ensures no_read_fault { result ≢ 3 → result ≢ 4 → S.faults input.new ≡ S.faults input.old }
     ensures no_write_fault { result ≢ 4 → K.faults out.new ≡ K.faults out.old }
@@ -133,7 +149,8 @@ pub fn desk_main<R: Threads + Sync, S: Source, K: Sink>(
     ensures starts { StartsReady }
     ensures ready { CommandsLeaveReady }
     ensures settled { SettlesLeaveNothing }
-    ensures others { (result ≡ 0) ⊎ (result ≡ 2) ⊎ (result ≡ 3) ⊎ (result ≡ 4) ⊎ (result ≡ 5) ⊎ (result ≡ 6) ⊎ (result ≡ 7) }
+    ensures others { (result ≡ 0) ⊎ (result ≡ 2) ⊎ (result ≡ 3) ⊎ (result ≡ 4) ⊎ (result ≡ 5) ⊎ (result ≡ 6)
+        ⊎ (result ≡ 7) }
 {
     headline();
     plays_law();

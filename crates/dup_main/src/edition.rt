@@ -67,7 +67,8 @@ impl Edition {
     /// Publishes a page as a bundle of its own, where the edition has another at its path or none.
     pub(crate) fn publish(&mut self, path: Path, page: Rendered) -> Result<(), NoMemory>
         requires { self.old.number < 2 ^ 63 }
-        ensures published { OnOk result ((p : Published) → KeepsPages p self.old → KeepsPages (with_page page.version p (path, plain_look page.obj page.bytes.items)) self.new) }
+        ensures published { OnOk result ((p : Published) → KeepsPages p self.old →
+            KeepsPages (with_page page.version p (path, plain_look page.obj page.bytes.items)) self.new) }
         ensures grows { (self.old.number ≤ self.new.number) × (self.new.number ≤ self.old.number + 1) }
     {
         if self.shows(&path, &page) {

@@ -42,8 +42,10 @@ fn publish_row(
     requires form { is_first_form site.now ≡ true }
     requires content { IsOf site.now content.now }
     requires number { edition.old.number < 2 ^ 63 }
-    ensures published { OnOk result ((p : Published) → KeepsPages p edition.old → KeepsPages (with_page version p (row_page site.now content.now key.now)) edition.new) }
-    ensures grows { (edition.old.number ≤ edition.new.number) × (edition.new.number ≤ edition.old.number + 1) }
+    ensures published { OnOk result ((p : Published) → KeepsPages p edition.old →
+        KeepsPages (with_page version p (row_page site.now content.now key.now)) edition.new) }
+    ensures grows { (edition.old.number ≤ edition.new.number)
+        × (edition.new.number ≤ edition.old.number + 1) }
 {
     let obj = row_object(key);
     let page = Rendered {
@@ -65,8 +67,10 @@ pub(crate) fn publish_rows(
     requires form { is_first_form site.now ≡ true }
     requires content { IsOf site.now content.now }
     requires number { edition.old.number + length (table content.now 0) < 2 ^ 63 }
-    ensures published { OnOk result ((p : Published) → KeepsPages p edition.old → KeepsPages (with_pages version (map (row_page site.now content.now) (keys content.now 0)) p) edition.new) }
-    ensures grows { (edition.old.number ≤ edition.new.number) × (edition.new.number ≤ edition.old.number + length (table content.now 0)) }
+    ensures published { OnOk result ((p : Published) → KeepsPages p edition.old →
+        KeepsPages (with_pages version (map (row_page site.now content.now) (keys content.now 0)) p) edition.new) }
+    ensures grows { (edition.old.number ≤ edition.new.number)
+        × (edition.new.number ≤ edition.old.number + length (table content.now 0)) }
 {
     for row in content.rows(0) {
         publish_row(alloc, site, content, version, &row.0, edition)?;

@@ -36,7 +36,8 @@ pub(crate) fn first_content(alloc: Global, site: Site) -> Result<Content, NoMemo
 /// Applies a commit where it is accepted. Gives the line of its refusal, or nothing.
 fn take_commit(alloc: Global, content: &mut Content, commit: &Commit) -> Result<Vec<u8>, NoMemory>
     ensures of_site { (site : Sites) → IsOf site content.old → IsOf site content.new }
-    ensures takes { IfOk result (λ text. Takes content.old content.new 0 (command.Commit commit.now) text.items) }
+    ensures takes { IfOk result (λ text. Takes content.old content.new 0
+        (command.Commit commit.now) text.items) }
 {
     match apply(alloc, content, commit, ROWS) {
         Ok(made) => {
@@ -75,11 +76,16 @@ pub(crate) fn render_lines<'s, S: Source, K: Sink>(
     requires no_fault { fault_of lines.old ≡ None }
     requires good { IsGood site }
     ensures same_reference { reference_of lines.new ≡ reference_of lines.old }
-    ensures written { OnOk result (WritesScript (RendersLines message_command site (number_of lines.old)) (to_read S.left lines.old) (K.written out.old) (K.written out.new)) }
+    ensures written { OnOk result (WritesScript (RendersLines message_command site (number_of lines.old))
+        (to_read S.left lines.old) (K.written out.old) (K.written out.new)) }
     ensures at_end { OnOk result (IsAtEnd (S.left (source_of lines.new))) }
-    ensures stopped { IfErr result (λ stop. StopsInScript stop (RendersLines message_command site (number_of lines.old)) (to_read S.left lines.old) (K.written out.old) (K.written out.new)) }
-    ensures read_fault { IsErrOf result Stop.ReadFault → Rose (S.faults (source_of lines.old)) (S.faults (source_of lines.new)) }
-    ensures no_read_fault { result ≢ Err Stop.ReadFault → S.faults (source_of lines.new) ≡ S.faults (source_of lines.old) }
+    ensures stopped { IfErr result (λ stop. StopsInScript stop
+        (RendersLines message_command site (number_of lines.old)) (to_read S.left lines.old)
+        (K.written out.old) (K.written out.new)) }
+    ensures read_fault { IsErrOf result Stop.ReadFault →
+        Rose (S.faults (source_of lines.old)) (S.faults (source_of lines.new)) }
+    ensures no_read_fault { result ≢ Err Stop.ReadFault →
+        S.faults (source_of lines.new) ≡ S.faults (source_of lines.old) }
     ensures write_fault { IsErrOf result Stop.WriteFault → Rose (K.faults out.old) (K.faults out.new) }
     ensures no_write_fault { result ≢ Err Stop.WriteFault → K.faults out.new ≡ K.faults out.old }
 {

@@ -19,9 +19,11 @@ pub(crate) fn render_site<S: Source, K: Sink>(
     input: &mut S,
     out: &mut K,
 ) -> Result<(), Stop>
-    ensures written { OnOk result (WritesTranscript Render (S.left input.old) (K.written out.old) (K.written out.new) 0) }
+    ensures written { OnOk result (WritesTranscript Render (S.left input.old) (K.written out.old)
+        (K.written out.new) 0) }
     ensures at_end { OnOk result (IsAtEnd (S.left input.new)) }
-    ensures stopped { IfErr result (λ stop. StopsAt Render stop (S.left input.old) (K.written out.old) (K.written out.new)) }
+    ensures stopped { IfErr result (λ stop. StopsAt Render stop (S.left input.old) (K.written out.old)
+        (K.written out.new)) }
     ensures read_fault { IsErrOf result Stop.ReadFault → Rose (S.faults input.old) (S.faults input.new) }
     ensures no_read_fault { result ≢ Err Stop.ReadFault → S.faults input.new ≡ S.faults input.old }
     ensures write_fault { IsErrOf result Stop.WriteFault → Rose (K.faults out.old) (K.faults out.new) }

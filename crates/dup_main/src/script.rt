@@ -24,11 +24,17 @@ pub(crate) fn play_script<'s, S: Source, K: Sink>(
     requires no_fault { fault_of lines.old ≡ None }
     requires form { is_first_form site ≡ true }
     ensures same_reference { reference_of lines.new ≡ reference_of lines.old }
-    ensures written { OnOk result (WritesScript (Writes message_command site first_session (number_of lines.old)) (to_read S.left lines.old) (K.written out.old) (K.written out.new)) }
+    ensures written { OnOk result (WritesScript
+        (Writes message_command site first_session (number_of lines.old)) (to_read S.left lines.old)
+        (K.written out.old) (K.written out.new)) }
     ensures at_end { OnOk result (IsAtEnd (S.left (source_of lines.new))) }
-    ensures stopped { IfErr result (λ stop. StopsInScript stop (Writes message_command site first_session (number_of lines.old)) (to_read S.left lines.old) (K.written out.old) (K.written out.new)) }
-    ensures read_fault { IsErrOf result Stop.ReadFault → Rose (S.faults (source_of lines.old)) (S.faults (source_of lines.new)) }
-    ensures no_read_fault { result ≢ Err Stop.ReadFault → S.faults (source_of lines.new) ≡ S.faults (source_of lines.old) }
+    ensures stopped { IfErr result (λ stop. StopsInScript stop
+        (Writes message_command site first_session (number_of lines.old)) (to_read S.left lines.old)
+        (K.written out.old) (K.written out.new)) }
+    ensures read_fault { IsErrOf result Stop.ReadFault →
+        Rose (S.faults (source_of lines.old)) (S.faults (source_of lines.new)) }
+    ensures no_read_fault { result ≢ Err Stop.ReadFault →
+        S.faults (source_of lines.new) ≡ S.faults (source_of lines.old) }
     ensures write_fault { IsErrOf result Stop.WriteFault → Rose (K.faults out.old) (K.faults out.new) }
     ensures no_write_fault { result ≢ Err Stop.WriteFault → K.faults out.new ≡ K.faults out.old }
 {

@@ -133,7 +133,8 @@ impl Session {
         requires ready { IsReady self.old }
         ensures site { self.new.site.value ≡ self.old.site.value }
         ensures ready { IsReady self.new }
-        ensures acts { IfOk result (λ text. Acts self.old self.new 0 (command.Node node _capacity _mode) text.items) }
+        ensures acts { IfOk result (λ text. Acts self.old self.new 0
+            (command.Node node _capacity _mode) text.items) }
         ensures version { self.new.version ≡ self.old.version }
         ensures number { self.new.edition.number ≡ self.old.edition.number }
     {
@@ -146,7 +147,8 @@ impl Session {
     }
 
     fn get(&self, alloc: Global, node: u16, pass: u64, path: &Path) -> Result<Vec<u8>, NoMemory>
-        ensures acts { IfOk result (λ text. Acts self.now self.now 0 (command.Get node pass path.now) text.items) }
+        ensures acts { IfOk result (λ text. Acts self.now self.now 0
+            (command.Get node pass path.now) text.items) }
     {
         let number = self.edition.number;
         if !has_node(&self.nodes, node) {

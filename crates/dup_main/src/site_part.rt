@@ -42,13 +42,17 @@ pub(crate) fn read_site_text<'s, S: Source>(
 ) -> Result<SiteText, Stop>
     requires { fault_of lines.old ≡ None }
     ensures same_reference { reference_of lines.new ≡ reference_of lines.old }
-    ensures text { IfOk result (λ read. ReadsSite (to_read S.left lines.old) (if read.has_script then to_read S.left lines.new else Some Whole) read.text.items) }
-    ensures lines { IfOk result (λ read. OnTrue read.has_script (CountsSite (to_read S.left lines.old) (number_of lines.old) (number_of lines.new))) }
+    ensures text { IfOk result (λ read. ReadsSite (to_read S.left lines.old)
+        (if read.has_script then to_read S.left lines.new else Some Whole) read.text.items) }
+    ensures lines { IfOk result (λ read. OnTrue read.has_script
+        (CountsSite (to_read S.left lines.old) (number_of lines.old) (number_of lines.new))) }
     ensures at_end { IfOk result (λ read. OnFalse read.has_script (IsAtEnd (S.left (source_of lines.new)))) }
     ensures no_stop { OnOk result (fault_of lines.new ≡ None) }
     ensures stopped { IfErr result (λ stop. StopsInSite stop (to_read S.left lines.old)) }
-    ensures read_fault { IsErrOf result Stop.ReadFault → Rose (S.faults (source_of lines.old)) (S.faults (source_of lines.new)) }
-    ensures no_fault { result ≢ Err Stop.ReadFault → S.faults (source_of lines.new) ≡ S.faults (source_of lines.old) }
+    ensures read_fault { IsErrOf result Stop.ReadFault →
+        Rose (S.faults (source_of lines.old)) (S.faults (source_of lines.new)) }
+    ensures no_fault { result ≢ Err Stop.ReadFault →
+        S.faults (source_of lines.new) ≡ S.faults (source_of lines.old) }
 {
     let mut text = Vec::new(alloc);
     'lines: loop {

@@ -13,7 +13,8 @@ use std::alloc::{AllocError, Global};
 
 pub(crate) fn refusal_text(alloc: Global, why: CommitRefusal) -> Result<String, AllocError>
     requires { why ≢ CommitRefusal.NoMemory }
-    ensures { IfOk result (λ text. (due : Refusal) → Names why (Some due) → string_bytes text ≡ refusal_text due) }
+    ensures { IfOk result (λ text. (due : Refusal) → Names why (Some due) →
+        string_bytes text ≡ refusal_text due) }
 {
     match why {
         CommitRefusal::UnknownKind(change) => {
@@ -39,7 +40,8 @@ pub(crate) fn not_built(alloc: Global, number: u64) -> Result<String, AllocError
 }
 
 pub(crate) fn node_text(alloc: Global, taken: bool, node: u16) -> Result<String, AllocError>
-    ensures { IfOk result (λ text. string_bytes text ≡ (if taken then line (codes "node " ++ decimal node ++ codes " taken") else line (codes "node " ++ decimal node))) }
+    ensures { IfOk result (λ text. string_bytes text ≡ (if taken then line (codes "node " ++ decimal node
+        ++ codes " taken") else line (codes "node " ++ decimal node))) }
 {
     if taken {
         format!(in alloc; "node {node} taken\n")
@@ -61,7 +63,8 @@ pub(crate) fn absent_text(alloc: Global, edition: u64) -> Result<String, AllocEr
 }
 
 pub(crate) fn ahead_text(alloc: Global, pass: u64, edition: u64) -> Result<String, AllocError>
-    ensures { IfOk result (λ text. string_bytes text ≡ line (codes "ahead " ++ decimal pass ++ codes " " ++ decimal edition)) }
+    ensures { IfOk result (λ text. string_bytes text ≡ line (codes "ahead " ++ decimal pass ++ codes " "
+        ++ decimal edition)) }
 {
     format!(in alloc; "ahead {pass} {edition}\n")
 }
@@ -80,7 +83,8 @@ pub(crate) fn settled_text(
     renewed: usize,
     kept: usize,
 ) -> Result<String, AllocError>
-    ensures { IfOk result (λ text. string_bytes text ≡ settled_text edition bundles (record { version = version; expanded = renewed; joined = renewed; kept = kept })) }
+    ensures { IfOk result (λ text. string_bytes text ≡ settled_text edition bundles
+        (record { version = version; expanded = renewed; joined = renewed; kept = kept })) }
 {
     format!(in alloc;
         "settled {version} edition {edition} bundles {bundles} expanded {renewed} joined {renewed} kept {kept}\n"
@@ -88,7 +92,8 @@ pub(crate) fn settled_text(
 }
 
 pub(crate) fn found_text(alloc: Global, edition: u64, page: &Rendered) -> Result<Vec<u8>, NoMemory>
-    ensures { IfOk result (λ text. (path : List ℕ) → text.items ≡ found_text edition (page_of path page.now)) }
+    ensures { IfOk result (λ text. (path : List ℕ) →
+        text.items ≡ found_text edition (page_of path page.now)) }
 {
     let version = page.version;
     let length = page.bytes.len();

@@ -25,7 +25,8 @@ missed cache true (Some page) = record { reply = Found cache.number page Miss; c
 missed cache false (Some page) = record { reply = Found cache.number page MissUnkept; cache = cache }
 
 abbrev pub after_refresh : Cache → Edition → Path → Bool → Option Page → Answer
-after_refresh cache e path kept (Some page) = record { reply = Found cache.number page Hit; cache = with_first page cache }
+after_refresh cache e path kept (Some page) =
+    record { reply = Found cache.number page Hit; cache = with_first page cache }
 after_refresh cache e path kept None = missed cache kept (fin.get e path)
 
 -- the cache has caught up
@@ -35,7 +36,8 @@ refreshed cache e pass path kept =
     else after_refresh cache e path kept (entry cache path)
 
 abbrev pub answer_at : Cache → List Bundle → ℕ → Path → Bool → Option Page → Answer
-answer_at cache log pass path kept (Some page) = record { reply = Found cache.number page Hit; cache = with_first page cache }
+answer_at cache log pass path kept (Some page) =
+    record { reply = Found cache.number page Hit; cache = with_first page cache }
 answer_at cache log pass path kept None = refreshed (catch_up log cache) (edition log) pass path kept
 
 abbrev pub answer : Cache → List Bundle → ℕ → Path → Bool → Answer

@@ -21,7 +21,8 @@ names path b = list_any (λ page. bytes_eq page.path path) b.puts || list_any (b
 -- the entries once these bundles are known, the last of them making the edition e
 abbrev pub caught_up : Mode → List Bundle → Edition → List Page → List Page
 caught_up Invalidate bundles e entries =
-    if nat_lt 64 (length bundles) then [] else filter (λ page. not (list_any (names page.path) bundles)) entries
+    if nat_lt 64 (length bundles) then []
+    else filter (λ page. not (list_any (names page.path) bundles)) entries
 caught_up Update bundles e entries = filter_map (λ page. fin.get e page.path) entries
 
 abbrev pub catch_up : List Bundle → Cache → Cache
@@ -35,4 +36,8 @@ entry cache path = find (λ page. bytes_eq page.path path) cache.entries
 
 -- the page stands first, and the last leaves a full cache
 abbrev pub with_first : Page → Cache → Cache
-with_first page cache = record cache { entries = take cache.capacity (page ∷ filter (λ other. not (bytes_eq other.path page.path)) cache.entries) }
+with_first page cache =
+    record cache {
+      entries = take cache.capacity (page
+          ∷ filter (λ other. not (bytes_eq other.path page.path)) cache.entries);
+    }

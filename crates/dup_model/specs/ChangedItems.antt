@@ -28,13 +28,16 @@ EditHasKey (Remove kind key) = IsTrue (is_key key)
 
 -- changes whose keys are keys keep it so
 abbrev pub VersionsHaveKeys : Type 0
-VersionsHaveKeys = (site : Parts) (commits : List Commit) → AllByRecursion (λ commit. AllByRecursion EditHasKey commit) commits → KeysAreKeys (content site commits)
+VersionsHaveKeys = (site : Parts) (commits : List Commit) →
+    AllByRecursion (λ commit. AllByRecursion EditHasKey commit) commits → KeysAreKeys (content site commits)
 
 -- the keys of what an object reads are keys, where those of the rows are and its own is
 abbrev pub ReadsAreItems : Type 0
-ReadsAreItems = (c : Content) (o : Obj) → KeysAreKeys c → KeyOk o.key → AllByRecursion (λ it. IsTrue (is_item it)) (reads c o)
+ReadsAreItems = (c : Content) (o : Obj) → KeysAreKeys c → KeyOk o.key →
+    AllByRecursion (λ it. IsTrue (is_item it)) (reads c o)
 
 -- an object is touched exactly where a changed item is among those that it reads
 abbrev pub TouchedByChanges : Type 0
-TouchedByChanges = (a b : Content) (items : List Item) (o : Obj) → AreChanged a b items → KeysAreKeys a → KeyOk o.key →
+TouchedByChanges = (a b : Content) (items : List Item) (o : Obj) → AreChanged a b items → KeysAreKeys a →
+    KeyOk o.key →
     (IsTrue (touched a b o) ↔ ((it : Item) × Contains items it × Contains (reads a o) it))

@@ -56,7 +56,10 @@ abbrev pub edited : Content → Edit → Content
 edited c (Put name key fields) =
     let kind = kind_at c.frame name in
     let names = fields_at c.frame kind in
-    with_table c kind (put_row (key, with_fields names fields (unwrap_or (row c kind key) (blank names))) (table c kind))
+    with_table c kind (put_row (
+      key,
+      with_fields names fields (unwrap_or (row c kind key) (blank names)),
+    ) (table c kind))
 edited c (Remove name key) =
     let kind = kind_at c.frame name in
     with_table c kind (filter (λ e. not (same e.0 key)) (table c kind))
@@ -92,7 +95,8 @@ edit_misfit c n (Remove name key) =
 abbrev pub no_room : Content → ℕ → ℕ → Edit → Option Refusal
 no_room c rows n (Put name key fields) =
     let kind = kind_at c.frame name in
-    if not (is_some (row c kind key)) && not (nat_lt (length (table c kind)) rows) then Some (KindFull n) else None
+    if not (is_some (row c kind key)) && not (nat_lt (length (table c kind)) rows) then Some (KindFull n)
+    else None
 no_room c rows n (Remove name key) = None
 
 abbrev pub misfit_from : ℕ → Content → Commit → Option Refusal
@@ -101,7 +105,8 @@ misfit_from n c (e ∷ es) = option_or (edit_misfit c n e) (misfit_from (1 + n) 
 
 abbrev pub refusal_from : ℕ → Content → Commit → ℕ → Option Refusal
 refusal_from n c [] rows = None
-refusal_from n c (e ∷ es) rows = option_or (option_or (edit_misfit c n e) (no_room c rows n e)) (refusal_from (1 + n) (edited c e) es rows)
+refusal_from n c (e ∷ es) rows =
+    option_or (option_or (edit_misfit c n e) (no_room c rows n e)) (refusal_from (1 + n) (edited c e) es rows)
 
 -- why a commit can't follow a content, whatever the limits; and with so many rows at most in a kind
 abbrev pub misfit : Content → Commit → Option Refusal

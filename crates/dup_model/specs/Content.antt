@@ -1,4 +1,5 @@
--- A content: the frame of a site, the bodies of its templates, and the rows of each kind in the order of their keys.
+-- A content: the frame of a site, the bodies of its templates, and the rows of each kind in the order of
+-- their keys.
 use Rattle.std.specs.Prelude.{◌≡◌, ℕ, List, [], map, Option, Some, None, is_some}
 use Rattle.std.specs.List.{find, filter, slice_get}
 use Rattle.std.specs.Option.{option_map, unwrap_or}

@@ -31,10 +31,12 @@ target_looks t p = fin.get t p
 -- each entry is its path's page at its version, links lead to entries, and no object is shown in two ways
 pub record IsConsistent (site : Parts) (history : List Commit) (e : Edition) : Type 0 where
   pub rendered : (p : Path) (page : Page) → fin.get e p ≡ Some page →
-      (page.path ≡ p) × (page.version ≤ length history) × (fin.get (target_at site history page.version) p ≡ Some page.look)
+      (page.path ≡ p) × (page.version ≤ length history)
+      × (fin.get (target_at site history page.version) p ≡ Some page.look)
   pub sound : IsSound (looks e)
 
--- a record of a log: a version, the commits since the last record's version, the pages put and the paths dropped
+-- a record of a log: a version, the commits since the last record's version, the pages put and the paths
+-- dropped
 pub record Bundle : Type 0 where
   pub version : ℕ
   pub commits : List Commit

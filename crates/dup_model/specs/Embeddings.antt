@@ -20,4 +20,5 @@ embedded = fold-Statement (List Word) embedded_step
 
 -- a template embeds earlier templates alone
 abbrev pub EmbedsEarlier : Content → Type 0
-EmbedsEarlier c = (n : ℕ) → AllByRecursion (λ name. template_at c.frame name < n) (flat_map embedded (body_at c n))
+EmbedsEarlier c = (n : ℕ) →
+    AllByRecursion (λ name. template_at c.frame name < n) (flat_map embedded (body_at c n))

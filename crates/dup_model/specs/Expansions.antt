@@ -28,7 +28,8 @@ stale c notes = find (λ n. not (same_value (value c n.0) n.1)) notes
 abbrev pub Holds : Content → List (Item × Value) → Type 0
 Holds c notes = AllByRecursion (λ n. value c n.0 ≡ n.1) notes
 
--- in every content of the site where the notes hold, the noted items are what the object reads, and the skeleton is its own
+-- in every content of the site where the notes hold, the noted items are what the object reads, and the
+-- skeleton is its own
 pub record IsGoodExpansion (e : Expansion) : Type 0 where
   pub items : (c : Content) → IsOf e.site c → Holds c e.notes → map (λ n. n.0) e.notes ≡ reads c e.obj
   pub gives : (c : Content) → IsOf e.site c → Holds c e.notes → skeleton c e.obj ≡ e.skeleton
@@ -38,7 +39,8 @@ abbrev pub expansion : Parts → Content → Obj → Expansion
 expansion site c o = record { site = site; obj = o; notes = notes c o; skeleton = skeleton c o }
 
 abbrev pub ExpansionsAreGood : Type 0
-ExpansionsAreGood = (site : Parts) (c : Content) → IsOf site c → (o : Obj) → IsGoodExpansion (expansion site c o)
+ExpansionsAreGood = (site : Parts) (c : Content) → IsOf site c → (o : Obj) →
+    IsGoodExpansion (expansion site c o)
 
 -- a good expansion, from whatever version, is the object's where no note is stale
 abbrev pub GoodIsRight : Type 0

@@ -15,14 +15,16 @@ pub record IsFinest (e t : Looks) (s : Paths) : Type 0 where
   pub some : (p : Path) × IsTrue (s p)
   pub only : (p : Path) → IsTrue (s p) → IsTrue (changed e t p)
   pub closed : IsClosed e t s
-  pub finest : (r : Paths) → ((p : Path) × IsTrue (r p)) → ((p : Path) → IsTrue (r p) → IsTrue (s p)) → IsClosed e t r → (p : Path) → IsTrue (s p) → IsTrue (r p)
+  pub finest : (r : Paths) → ((p : Path) × IsTrue (r p)) → ((p : Path) → IsTrue (r p) → IsTrue (s p)) →
+      IsClosed e t r → (p : Path) → IsTrue (s p) → IsTrue (r p)
 
 abbrev pub IsLeastOf : Paths → Path → Type 0
 IsLeastOf s p = IsTrue (s p) × ((q : Path) → IsTrue (s q) → is_lt (text_cmp q p) ≡ false)
 
 -- a finest set, whose least path is least among those of all finest sets
 abbrev pub IsFinestBundle : Looks → Looks → Paths → Type 0
-IsFinestBundle e t s = (p : Path) × IsFinest e t s × IsLeastOf s p × ((r : Paths) (q : Path) → IsFinest e t r → IsLeastOf r q → is_lt (text_cmp q p) ≡ false)
+IsFinestBundle e t s = (p : Path) × IsFinest e t s × IsLeastOf s p
+    × ((r : Paths) (q : Path) → IsFinest e t r → IsLeastOf r q → is_lt (text_cmp q p) ≡ false)
 
 -- all that p reaches reaches it back
 abbrev pub is_knot : (Path → Path → Bool) → List Path → Path → Bool

@@ -1,4 +1,5 @@
--- The frame of a site: its kinds, the heads of its templates and its page declarations, without the templates' bodies.
+-- The frame of a site: its kinds, the heads of its templates and its page declarations, without the
+-- templates' bodies.
 use Rattle.std.specs.Prelude.{List, map, Option}
 use Rattle.dup_names.specs.Words.{Word}
 use Rattle.dup_template.specs.declared.site.Parts.{Parts}

@@ -43,7 +43,8 @@ body_fits frame (s ∷ ss) in_row = statement_fits frame s in_row && body_fits f
 
 -- a page's template is there, and that of a fixed page has no kind
 abbrev pub page_fits : Frame → PageRule → Bool
-page_fits frame (Fixed path template) = is_template frame (template_at frame template) && is_none (kind_of frame (template_at frame template))
+page_fits frame (Fixed path template) =
+    is_template frame (template_at frame template) && is_none (kind_of frame (template_at frame template))
 page_fits frame (Family prefix template) = is_template frame (template_at frame template)
 
 pub record JobsFit (c : Content) : Type 0 where
@@ -52,4 +53,5 @@ pub record JobsFit (c : Content) : Type 0 where
 
 -- whatever a work has done, what it finds can be expanded
 abbrev pub FoundAreJobs : Type 0
-FoundAreJobs = (c : Content) (done : List Obj) (o : Obj) → JobsFit c → IsTrue (is_in (found c done) o) → IsJob c.frame o
+FoundAreJobs = (c : Content) (done : List Obj) (o : Obj) → JobsFit c → IsTrue (is_in (found c done) o) →
+    IsJob c.frame o

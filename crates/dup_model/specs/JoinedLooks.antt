@@ -22,11 +22,13 @@ filled below (piece.Hole o) = below o
 pub record IsJoined (c : Content) (o : Obj) : Type 0 where
   pub bytes : show c o ≡ flat_map (filled (show c)) (skeleton c o).pieces
   pub uses : uses c o ≡ in_order obj_cmp (o ∷ flat_map (uses c) (embeds c o))
-  pub links : (look c o).links ≡ in_order text_cmp ((skeleton c o).links ++ flat_map (λ f. (look c f).links) (embeds c o))
+  pub links : (look c o).links ≡ in_order text_cmp ((skeleton c o).links
+      ++ flat_map (λ f. (look c f).links) (embeds c o))
 
 abbrev pub LooksAreJoined : Type 0
 LooksAreJoined = (c : Content) (o : Obj) → EmbedsEarlier c → IsJoined c o
 
 -- an object is affected where it is touched or embeds an affected one
 abbrev pub AffectedUpwards : Type 0
-AffectedUpwards = (a b : Content) (o : Obj) → EmbedsEarlier a → affected a b o ≡ (touched a b o || list_any (affected a b) (embeds a o))
+AffectedUpwards = (a b : Content) (o : Obj) → EmbedsEarlier a →
+    affected a b o ≡ (touched a b o || list_any (affected a b) (embeds a o))

@@ -32,7 +32,8 @@ journal_bytes commits = sum_by commit_bytes commits
 -- the journal has its commits, or this one would take it past its bytes
 abbrev pub journal_full : Limits → List Commit → Commit → Option Refusal
 journal_full limits commits commit =
-    if not (nat_lt (length commits) limits.commits) || nat_lt limits.bytes (journal_bytes commits + commit_bytes commit)
+    if not (nat_lt (length commits) limits.commits)
+    || nat_lt limits.bytes (journal_bytes commits + commit_bytes commit)
     then Some (JournalFull (length commits) (journal_bytes commits)) else None
 
 -- the journal is looked at first

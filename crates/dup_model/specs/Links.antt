@@ -19,11 +19,13 @@ abbrev pub linked_to : Option Word → List Mark → List Mark
 linked_to None body = body
 linked_to (Some path) body = opening path ++ body ++ closing
 
--- the path of the page of a template, of this kind if it has one, where the page exists: a fixed page always does, a family's where its row does
+-- the path of the page of a template, of this kind if it has one, where the page exists: a fixed page always
+-- does, a family's where its row does
 abbrev pub target_path : Content → Word → Option ℕ → Option Word → Option Path
 target_path c template None key = page_path c.frame template None
 target_path c template (Some kind) None = None
-target_path c template (Some kind) (Some key) = if is_some (row c kind key) then page_path c.frame template (Some key) else None
+target_path c template (Some kind) (Some key) =
+    if is_some (row c kind key) then page_path c.frame template (Some key) else None
 
 abbrev pub target_read : Option ℕ → Option Word → List Mark
 target_read None key = []
@@ -39,4 +41,5 @@ abbrev pub link_via : Content → ℕ → Word → Word → List Mark → Word �
 link_via c kind name via body key =
     let field = field_at c.frame kind via in
     let to = text c kind key field in
-    mark.Read (item.Field kind key field) ∷ (if is_key to then link c name (kind_named c.frame name) (Some to) body else body)
+    mark.Read (item.Field kind key field)
+    ∷ (if is_key to then link c name (kind_named c.frame name) (Some to) body else body)

@@ -11,7 +11,8 @@ use Rattle.dup_model.specs.Bundles.{bundle}
 pub record IsNext (site : Parts) (log : List Bundle) (b : Bundle) : Type 0 where
   pub paths : List Path
   pub chosen : bundle (edition log) (target (content site (history log ++ b.commits))) ≡ Some paths
-  pub is : b ≡ bundle_of (target (content site (history log ++ b.commits))) (length (history log ++ b.commits)) b.commits paths
+  pub is : b ≡ bundle_of (target (content site (history log ++ b.commits))) (length (history log
+      ++ b.commits)) b.commits paths
 
 pub record IsGoodLog (site : Parts) (log : List Bundle) : Type 0 where
   pub allowed : (k : ℕ) → k ≤ length log → IsHistory site (history (take k log))

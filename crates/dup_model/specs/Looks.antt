@@ -13,7 +13,8 @@ use Rattle.dup_model.specs.Skeletons.{embeds, goes}
 abbrev pub down : Content → (Obj → Bool) → ℕ → Obj → List Obj
 down c is_open zero o = []
 down c is_open (suc n) o =
-    if o.template == n then o ∷ (if is_open o then flat_map (down c is_open n) (embeds c o) else []) else down c is_open n o
+    if o.template == n then o ∷ (if is_open o then flat_map (down c is_open n) (embeds c o) else [])
+    else down c is_open n o
 
 abbrev pub reached_from : Content → (Obj → Bool) → Obj → List Obj
 reached_from c is_open o = in_order obj_cmp (down c is_open (suc o.template) o)

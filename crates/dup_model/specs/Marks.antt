@@ -29,7 +29,8 @@ abbrev pub via_marks : Content → ℕ → Word → Word → Word → List Mark
 via_marks c kind name via key =
     let field = field_at c.frame kind via in
     let to = text c kind key field in
-    mark.Read (item.Field kind key field) ∷ (if is_key to then mark.Hole (object_of c.frame (template_at c.frame name) (Some to)) ∷ [] else [])
+    mark.Read (item.Field kind key field)
+    ∷ (if is_key to then mark.Hole (object_of c.frame (template_at c.frame name) (Some to)) ∷ [] else [])
 
 -- one statement, with those of its body already read
 abbrev pub marks_step : Content → Statement-F (Here → List Mark) → Here → List Mark
@@ -39,10 +40,13 @@ marks_step c (Statement-F.Field name) here = on_key here.key (field_marks c here
 marks_step c Statement-F.Key here = on_key here.key (λ key. mark.Plain key ∷ [])
 marks_step c (Statement-F.If name body) here = on_key here.key (if_marks c here.kind name (each_of body here))
 marks_step c (Statement-F.Each name by order body) here = each_marks c name by order (each_of body) here.key
-marks_step c (Statement-F.Embed name None) here = mark.Hole (object_of c.frame (template_at c.frame name) here.key) ∷ []
+marks_step c (Statement-F.Embed name None) here =
+    mark.Hole (object_of c.frame (template_at c.frame name) here.key) ∷ []
 marks_step c (Statement-F.Embed name (Some via)) here = on_key here.key (via_marks c here.kind name via)
-marks_step c (Statement-F.Link name None body) here = link c name (kind_named c.frame name) here.key (each_of body here)
-marks_step c (Statement-F.Link name (Some via) body) here = on_key here.key (link_via c here.kind name via (each_of body here))
+marks_step c (Statement-F.Link name None body) here =
+    link c name (kind_named c.frame name) here.key (each_of body here)
+marks_step c (Statement-F.Link name (Some via) body) here =
+    on_key here.key (link_via c here.kind name via (each_of body here))
 
 abbrev pub statement_marks : Content → Statement → Here → List Mark
 statement_marks c = fold-Statement (Here → List Mark) (marks_step c)

@@ -1,4 +1,5 @@
--- What the names of a site stand for: numbers of kinds, fields and templates, objects, and the paths of pages.
+-- What the names of a site stand for: numbers of kinds, fields and templates, objects, and the paths of
+-- pages.
 use Rattle.std.specs.Prelude.{ℕ, List, [], map, Option, Some, None}
 use Rattle.std.specs.List.{slice_get}
 use Rattle.std.specs.Option.{option_map, unwrap_or}

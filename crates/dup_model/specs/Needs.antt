@@ -17,13 +17,15 @@ abbrev pub same_use : Obj × Word → Obj × Word → Bool
 same_use a b = same_obj a.0 b.0 && bytes_eq a.1 b.1
 
 abbrev pub same_look : Look → Look → Bool
-same_look a b = same_obj a.obj b.obj && bytes_eq a.bytes b.bytes && pointwise same_use a.uses b.uses && pointwise bytes_eq a.links b.links
+same_look a b = same_obj a.obj b.obj && bytes_eq a.bytes b.bytes && pointwise same_use a.uses b.uses
+    && pointwise bytes_eq a.links b.links
 
 -- some object is shown by both, with different bytes
 abbrev pub clash : Option Look → Option Look → Bool
 clash None b = false
 clash (Some a) None = false
-clash (Some a) (Some b) = list_any (λ x. list_any (λ y. same_obj x.0 y.0 && not (bytes_eq x.1 y.1)) b.uses) a.uses
+clash (Some a) (Some b) =
+    list_any (λ x. list_any (λ y. same_obj x.0 y.0 && not (bytes_eq x.1 y.1)) b.uses) a.uses
 
 -- a page links to q
 abbrev pub links : Option Look → Path → Bool
@@ -37,7 +39,8 @@ pub record IsSound (s : Looks) : Type 0 where
 
 -- to put p as t has it, or to drop it, q has to change too
 abbrev pub needs : Looks → Looks → Path → Path → Bool
-needs e t p q = not (bytes_eq p q) && (clash (t p) (e q) || links (t p) q && is_none (e q) || is_none (t p) && links (e q) p)
+needs e t p q = not (bytes_eq p q)
+    && (clash (t p) (e q) || links (t p) q && is_none (e q) || is_none (t p) && links (e q) p)
 
 -- absence counts as a look
 abbrev pub changed : Looks → Looks → Path → Bool

@@ -23,7 +23,11 @@ keys_of c (Some kind) = keys c kind
 abbrev pub pages_of : Content → PageRule → List (Path × Obj)
 pages_of c (Fixed path template) = (path, object_of c.frame (template_at c.frame template) None) ∷ []
 pages_of c (Family prefix template) =
-    map (λ key. (prefix ++ 47 ∷ key, object_of c.frame (template_at c.frame template) (Some key))) (keys_of c (kind_named c.frame template))
+    map (λ key. (
+      prefix ++ 47 ∷ key,
+      object_of c.frame (template_at c.frame template) (Some key),
+    ))
+    (keys_of c (kind_named c.frame template))
 
 abbrev pub pages : Content → List (Path × Obj)
 pages c = in_order (λ p q. text_cmp p.0 q.0) (flat_map (pages_of c) c.frame.pages)

@@ -20,33 +20,41 @@ TargetsAreSound = (c : Content) → IsSound (target_looks (target c))
 abbrev pub NeededChange : Type 0
 NeededChange = (e t : Looks) → IsSound t → NeededAreChanged e t
 
--- from sound looks, publishing paths as a sound target has them gives sound looks exactly where the paths are closed
+-- from sound looks, publishing paths as a sound target has them gives sound looks exactly where the paths are
+-- closed
 abbrev pub SoundWhereClosed : Type 0
-SoundWhereClosed = (e t : Looks) (s : Paths) → IsSound e → IsSound t → (IsSound (mixed s e t) ↔ IsClosed e t s)
+SoundWhereClosed = (e t : Looks) (s : Paths) → IsSound e → IsSound t →
+    (IsSound (mixed s e t) ↔ IsClosed e t s)
 
--- from a consistent edition, publishing paths as the target of a later version has them gives a consistent edition exactly where the paths are closed
+-- from a consistent edition, publishing paths as the target of a later version has them gives a consistent
+-- edition exactly where the paths are closed
 abbrev pub ConsistentWhereClosed : Type 0
 ConsistentWhereClosed = (site : Parts) (before commits : List Commit) (e : Edition) (paths : List Path) →
     let t = target (content site (before ++ commits)) in
     IsConsistent site before e →
-    (IsConsistent site (before ++ commits) (absorb e (bundle_of t (length (before ++ commits)) commits paths)) ↔ IsClosed (looks e) (target_looks t) (has paths))
+    (IsConsistent site (before ++ commits) (absorb e (bundle_of t (length (before ++ commits)) commits paths))
+    ↔ IsClosed (looks e) (target_looks t) (has paths))
 
 -- what `bundle` answers is the least changed path and all that it reaches by needs
 abbrev pub BundleReaches : Type 0
 BundleReaches = (e : Edition) (t : Target) (paths : List Path) →
-    NeededAreChanged (looks e) (target_looks t) → bundle e t ≡ Some paths → IsBundle (looks e) (target_looks t) (has paths)
+    NeededAreChanged (looks e) (target_looks t) → bundle e t ≡ Some paths →
+    IsBundle (looks e) (target_looks t) (has paths)
 
 -- there is no bundle exactly where nothing is changed
 abbrev pub NoBundle : Type 0
-NoBundle = (e : Edition) (t : Target) → (bundle e t ≡ None) ↔ ((p : Path) → changed (looks e) (target_looks t) p ≡ false)
+NoBundle = (e : Edition) (t : Target) → (bundle e t ≡ None)
+    ↔ ((p : Path) → changed (looks e) (target_looks t) p ≡ false)
 
 -- what `finest` answers is the finest closed set whose least path is least
 abbrev pub FinestIsFinest : Type 0
 FinestIsFinest = (e : Edition) (t : Target) (paths : List Path) →
-    NeededAreChanged (looks e) (target_looks t) → finest e t ≡ Some paths → IsFinestBundle (looks e) (target_looks t) (has paths)
+    NeededAreChanged (looks e) (target_looks t) → finest e t ≡ Some paths →
+    IsFinestBundle (looks e) (target_looks t) (has paths)
 
 abbrev pub NoFinest : Type 0
-NoFinest = (e : Edition) (t : Target) → finest e t ≡ None → (p : Path) → changed (looks e) (target_looks t) p ≡ false
+NoFinest = (e : Edition) (t : Target) → finest e t ≡ None → (p : Path) →
+    changed (looks e) (target_looks t) p ≡ false
 
 -- no nonempty proper part of a finest bundle would have given a consistent edition
 abbrev pub NoPartServes : Type 0

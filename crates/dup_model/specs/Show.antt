@@ -18,7 +18,8 @@ shown below (mark.Goes path) = []
 -- what the objects of the first n templates show
 abbrev pub show_below : Content → ℕ → Obj → Word
 show_below c zero o = []
-show_below c (suc n) o = if o.template == n then flat_map (shown (show_below c n)) (marks c o) else show_below c n o
+show_below c (suc n) o = if o.template == n then flat_map (shown (show_below c n)) (marks c o)
+    else show_below c n o
 
 -- a template embeds earlier templates alone
 abbrev pub show : Content → Obj → Word

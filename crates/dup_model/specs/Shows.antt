@@ -43,28 +43,35 @@ pub record ShowsEach (c : Content) : Type 0 where
   pub say : (words : Word) (here : Here) → statement_shows c (s.Say words) here ≡ words
   pub nl : (here : Here) → statement_shows c s.Nl here ≡ 10 ∷ []
   pub field : (name key : Word) (kind : ℕ) →
-      statement_shows c (s.Field name) (row_at kind (Some key)) ≡ escaped (text c kind key (field_at c.frame kind name))
+      statement_shows c (s.Field name) (row_at kind (Some key)) ≡ escaped
+      (text c kind key (field_at c.frame kind name))
   pub key : (key : Word) (kind : ℕ) → statement_shows c s.Key (row_at kind (Some key)) ≡ key
   pub if_field : (name key : Word) (kind : ℕ) (body : List Statement) →
       statement_shows c (s.If name body) (row_at kind (Some key))
-      ≡ (if length (text c kind key (field_at c.frame kind name)) == 0 then [] else body_shows c body (row_at kind (Some key)))
+      ≡ (if length (text c kind key (field_at c.frame kind name)) == 0 then []
+      else body_shows c body (row_at kind (Some key)))
   pub each : (name : Word) (order : Option Word) (body : List Statement) (here : Here) →
       let kind = kind_at c.frame name in
-      statement_shows c (s.Each name None order body) here ≡ for_rows c kind body (rows_by c kind order (keys c kind))
+      statement_shows c (s.Each name None order body) here ≡ for_rows c kind body
+      (rows_by c kind order (keys c kind))
   pub each_by : (name by key : Word) (current : ℕ) (order : Option Word) (body : List Statement) →
       let kind = kind_at c.frame name in
       statement_shows c (s.Each name (Some by) order body) (row_at current (Some key))
       ≡ for_rows c kind body (rows_by c kind order (group c kind (field_at c.frame kind by) key))
-  pub embed : (name : Word) (here : Here) → statement_shows c (s.Embed name None) here ≡ show c (object_named c name here.key)
+  pub embed : (name : Word) (here : Here) →
+      statement_shows c (s.Embed name None) here ≡ show c (object_named c name here.key)
   pub embed_via : (name via key : Word) (kind : ℕ) →
       let to = text c kind key (field_at c.frame kind via) in
-      statement_shows c (s.Embed name (Some via)) (row_at kind (Some key)) ≡ (if is_key to then show c (object_named c name (Some to)) else [])
+      statement_shows c (s.Embed name (Some via)) (row_at kind (Some key)) ≡
+      (if is_key to then show c (object_named c name (Some to)) else [])
   pub link : (name : Word) (body : List Statement) (here : Here) →
-      statement_shows c (s.Link name None body) here ≡ as_link (target_path c name (kind_named c.frame name) here.key) (body_shows c body here)
+      statement_shows c (s.Link name None body) here ≡ as_link
+      (target_path c name (kind_named c.frame name) here.key) (body_shows c body here)
   pub link_via : (name via key : Word) (kind : ℕ) (body : List Statement) →
       let to = text c kind key (field_at c.frame kind via) in
       statement_shows c (s.Link name (Some via) body) (row_at kind (Some key))
-      ≡ as_link (if is_key to then target_path c name (kind_named c.frame name) (Some to) else None) (body_shows c body (row_at kind (Some key)))
+      ≡ as_link (if is_key to then target_path c name (kind_named c.frame name) (Some to)
+      else None) (body_shows c body (row_at kind (Some key)))
 
 abbrev pub EachIsShown : Type 0
 EachIsShown = (c : Content) → EmbedsEarlier c → ShowsEach c

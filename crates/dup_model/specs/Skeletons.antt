@@ -1,4 +1,5 @@
--- One object by itself, up to each embedding: what it reads, what it embeds, where its links go, and its skeleton.
+-- One object by itself, up to each embedding: what it reads, what it embeds, where its links go, and its
+-- skeleton.
 use Rattle.std.specs.Prelude.{List, [], ◌∷◌, ◌++◌}
 use Rattle.std.specs.List.{flat_map}
 use Rattle.dup_names.specs.Order.{text_cmp, obj_cmp, item_cmp}
@@ -26,7 +27,8 @@ abbrev pub goes_by : Mark → List Path
 goes_by (mark.Goes path) = path ∷ []
 goes_by _ = []
 
--- the items that an object reads, the objects that it embeds, and the paths of its links, each in order and once
+-- the items that an object reads, the objects that it embeds, and the paths of its links, each in order and
+-- once
 abbrev pub reads : Content → Obj → List Item
 reads c o = in_order item_cmp (flat_map read_by (marks c o))
 

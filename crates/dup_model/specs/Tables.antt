@@ -27,4 +27,5 @@ abbrev pub VersionsAreOfTheSite : Type 0
 VersionsAreOfTheSite = (site : Parts) (commits : List Commit) → IsOf site (content site commits)
 
 abbrev pub VersionsHaveTables : Type 0
-VersionsHaveTables = (site : Parts) (commits : List Commit) → length (content site commits).tables ≡ length site.kinds
+VersionsHaveTables = (site : Parts) (commits : List Commit) →
+    length (content site commits).tables ≡ length site.kinds

@@ -64,7 +64,8 @@ touched a b o = list_any (differs a b) (reads a o)
 abbrev pub affected : Content → Content → Obj → Bool
 affected a b o = list_any (touched a b) (uses a o)
 
--- of the objects that pages use at b, those that pages didn't use at a, and those that pass a test from a to b
+-- of the objects that pages use at b, those that pages didn't use at a, and those that pass a test from a to
+-- b
 abbrev pub renewed : (Content → Content → Obj → Bool) → Option Content → Content → List Obj
 renewed test None b = live b
 renewed test (Some a) b = filter (λ o. not (is_in (live a) o) || test a b o) (live b)

@@ -26,7 +26,8 @@ order_reads c kind (Some order) ks = map (λ q. mark.Read (item.Field kind q (fi
 
 -- the turns of an `each` over these rows
 abbrev pub turns : Content → ℕ → Option Word → (Here → List Mark) → Item → List Word → List Mark
-turns c kind order body it ks = mark.Read it ∷ (order_reads c kind order ks ++ bodies kind body (rows_by c kind order ks))
+turns c kind order body it ks =
+    mark.Read it ∷ (order_reads c kind order ks ++ bodies kind body (rows_by c kind order ks))
 
 abbrev pub group_marks : Content → Word → Word → Option Word → (Here → List Mark) → Word → List Mark
 group_marks c name by order body key =
@@ -34,7 +35,8 @@ group_marks c name by order body key =
     let field = field_at c.frame kind by in
     turns c kind order body (item.Group kind field key) (group c kind field key)
 
-abbrev pub each_marks : Content → Word → Option Word → Option Word → (Here → List Mark) → Option Word → List Mark
+abbrev pub each_marks : Content → Word → Option Word → Option Word → (Here → List Mark) → Option Word →
+    List Mark
 each_marks c name None order body key =
     let kind = kind_at c.frame name in
     turns c kind order body (item.List kind) (keys c kind)

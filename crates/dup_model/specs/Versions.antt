@@ -19,4 +19,5 @@ target_content site commits target = option_map (version site commits) target
 
 -- each commit fits the content before it
 pub record IsHistory (site : Parts) (commits : List Commit) : Type 0 where
-  pub fits : (k : ℕ) (commit : Commit) → slice_get commits k ≡ Some commit → misfit (version site commits k) commit ≡ None
+  pub fits : (k : ℕ) (commit : Commit) → slice_get commits k ≡ Some commit →
+      misfit (version site commits k) commit ≡ None

@@ -1,4 +1,5 @@
--- A worked example: a cache of two pages that catches up over 64 and over 65 bundles, each of which puts one of them anew.
+-- A worked example: a cache of two pages that catches up over 64 and over 65 bundles, each of which puts one
+-- of them anew.
 use Rattle.std.specs.Prelude.{◌≡◌, ℕ, List, [], ◌∷◌, ◌++◌, Some, codes, replicate}
 use Rattle.dup_names.specs.Words.{Word}
 use Rattle.dup_names.specs.declared.object.Obj.{Obj}
@@ -10,7 +11,11 @@ use Rattle.dup_model.specs.declared.mode.Mode.TheVariants.{Invalidate, Update}
 abbrev pub event_page : Word → ℕ → Word → Page
 event_page key version bytes =
     let o : Obj = record { template = 0; key = Some key } in
-    record { path = codes "/event/" ++ key; version = version; look = record { obj = o; bytes = bytes; uses = (o, bytes) ∷ []; links = [] } }
+    record {
+      path = codes "/event/" ++ key;
+      version = version;
+      look = record { obj = o; bytes = bytes; uses = (o, bytes) ∷ []; links = [] };
+    }
 
 abbrev pub old_one : Page
 old_one = event_page (codes "e1") 1 (codes "<h1>A</h1>")
@@ -32,7 +37,11 @@ abbrev pub cache_of : Mode → ℕ → List Page → Cache
 cache_of mode number entries = record { capacity = 4; mode = mode; number = number; entries = entries }
 
 pub record CatchUpRow : Type 0 where
-  pub invalidate_64 : catch_up (log_of 64) (cache_of Invalidate 2 (two ∷ (old_one ∷ []))) ≡ cache_of Invalidate 66 (two ∷ [])
-  pub invalidate_65 : catch_up (log_of 65) (cache_of Invalidate 2 (two ∷ (old_one ∷ []))) ≡ cache_of Invalidate 67 []
-  pub update_64 : catch_up (log_of 64) (cache_of Update 2 (two ∷ (old_one ∷ []))) ≡ cache_of Update 66 (two ∷ (new_one ∷ []))
-  pub update_65 : catch_up (log_of 65) (cache_of Update 2 (two ∷ (old_one ∷ []))) ≡ cache_of Update 67 (two ∷ (new_one ∷ []))
+  pub invalidate_64 : catch_up (log_of 64) (cache_of Invalidate 2 (two
+      ∷ (old_one ∷ []))) ≡ cache_of Invalidate 66 (two ∷ [])
+  pub invalidate_65 : catch_up (log_of 65) (cache_of Invalidate 2 (two
+      ∷ (old_one ∷ []))) ≡ cache_of Invalidate 67 []
+  pub update_64 : catch_up (log_of 64) (cache_of Update 2 (two ∷ (old_one ∷ []))) ≡ cache_of Update 66 (two
+      ∷ (new_one ∷ []))
+  pub update_65 : catch_up (log_of 65) (cache_of Update 2 (two ∷ (old_one ∷ []))) ≡ cache_of Update 67 (two
+      ∷ (new_one ∷ []))

@@ -19,13 +19,18 @@ pub record ReadsEach (feed : Word → Command) : Type 0 where
   pub nothing : line_command feed [] ≡ Blank
   pub space : (text : Word) → line_command feed (32 ∷ text) ≡ line_command feed text
   pub comment : (text : Word) → line_command feed (35 ∷ text) ≡ Blank
-  pub commit : (message : Word) → list_all is_space message ≡ false → line_command feed (codes "commit " ++ message) ≡ feed message
-  pub no_message : (spaces : Word) → list_all is_space spaces ≡ true → line_command feed (codes "commit" ++ spaces) ≡ NotBuilt
-  pub settle : (spaces : Word) → list_all is_space spaces ≡ true → line_command feed (codes "settle" ++ spaces) ≡ Settle
+  pub commit : (message : Word) → list_all is_space message ≡ false →
+      line_command feed (codes "commit " ++ message) ≡ feed message
+  pub no_message : (spaces : Word) → list_all is_space spaces ≡ true →
+      line_command feed (codes "commit" ++ spaces) ≡ NotBuilt
+  pub settle : (spaces : Word) → list_all is_space spaces ≡ true →
+      line_command feed (codes "settle" ++ spaces) ≡ Settle
   pub node : (number capacity : ℕ) (mode : Mode) → is_node number ≡ true → is_capacity capacity ≡ true →
-      line_command feed (spaced (codes "node" ∷ decimal number ∷ decimal capacity ∷ mode_word mode ∷ [])) ≡ Node number capacity mode
+      line_command feed (spaced (codes "node" ∷ decimal number ∷ decimal capacity ∷ mode_word mode
+      ∷ [])) ≡ Node number capacity mode
   pub get : (number pass : ℕ) (path : Word) → is_node number ≡ true → pass < 2 ^ 64 → is_path path ≡ true →
-      line_command feed (spaced (codes "get" ∷ decimal number ∷ decimal pass ∷ path ∷ [])) ≡ Get number pass path
+      line_command feed (spaced (codes "get" ∷ decimal number ∷ decimal pass ∷ path
+      ∷ [])) ≡ Get number pass path
 
 abbrev pub EachIsRead : Type 0
 EachIsRead = (feed : Word → Command) → ReadsEach feed

@@ -26,16 +26,19 @@ abbrev pub is_capacity : ℕ → Bool
 is_capacity n = nat_le 1 n && nat_le n 65536
 
 abbrev pub mode_of : Word → Option Mode
-mode_of w = if same w (codes "update") then Some Update else (if same w (codes "invalidate") then Some Invalidate else None)
+mode_of w = if same w (codes "update") then Some Update
+    else (if same w (codes "invalidate") then Some Invalidate else None)
 
 -- `node S CAPACITY MODE`
 abbrev pub node_command : Option ℕ → Option ℕ → Option Mode → Command
-node_command (Some number) (Some capacity) (Some mode) = if is_node number && is_capacity capacity then Node number capacity mode else NotBuilt
+node_command (Some number) (Some capacity) (Some mode) =
+    if is_node number && is_capacity capacity then Node number capacity mode else NotBuilt
 node_command _ _ _ = NotBuilt
 
 -- `get S PASS PATH`
 abbrev pub get_command : Option ℕ → Option ℕ → Word → Command
-get_command (Some node) (Some pass) path = if is_node node && is_path path then Get node pass path else NotBuilt
+get_command (Some node) (Some pass) path = if is_node node && is_path path then Get node pass path
+    else NotBuilt
 get_command _ _ path = NotBuilt
 
 abbrev pub one_word : Word → Command

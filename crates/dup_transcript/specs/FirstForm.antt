@@ -1,4 +1,5 @@
--- The sites that can be played today: one kind, one template of it that only says texts and shows fields, and one family of that template.
+-- The sites that can be played today: one kind, one template of it that only says texts and shows fields, and
+-- one family of that template.
 use Rattle.std.specs.Prelude.{Bool, true, false, ◌&&◌, List, [], ◌∷◌, Option, Some, None, Result, Ok, Err, codes, if◌then◌else◌}
 use Rattle.std.specs.List.{list_all}
 use Rattle.dup_names.specs.Words.{Word, same}
@@ -31,7 +32,8 @@ is_kind kind (Some name) = same kind name
 
 -- a simple template of this kind, and nothing else, with its family
 abbrev pub is_template_of : Word → List TemplatePart → List PageRule → Bool
-is_template_of kind (t ∷ []) rules = is_kind kind t.kind && list_all is_simple t.body && is_family_of t.name rules
+is_template_of kind (t ∷ []) rules =
+    is_kind kind t.kind && list_all is_simple t.body && is_family_of t.name rules
 is_template_of kind _ rules = false
 
 abbrev pub is_kind_with : List KindPart → List TemplatePart → List PageRule → Bool

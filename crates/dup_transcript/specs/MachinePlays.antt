@@ -25,24 +25,38 @@ use Rattle.dup_transcript.specs.declared.command.Command.TheVariants as command
 abbrev pub LastTold : World → Told → Type 0
 LastTold w reply = (before : List Told) × (w.replies ≡ before ++ reply ∷ [])
 
--- what a settle does and counts: what waits is handed, expanded and put, all levels are joined, the work is finished, and bundles are published until nothing is changed;
+-- what a settle does and counts: what waits is handed, expanded and put, all levels are joined, the work is
+-- finished, and bundles are published until nothing is changed;
 -- where there is nothing to begin, bundles are published at once
 pub data Settles (site : Parts) (limits : Limits) (w : World) : List Event → Counts → Type 0 where
-  by_work : (k m n : ℕ) (counts : Counts) → LastTold (fold (step site limits) w (settling k m)) (Finished (Report counts)) →
-      LastTold (fold (step site limits) w (settling k m ++ publishes n)) NothingChanged → Settles site limits w (settling k m ++ publishes n) counts
-  at_once : (v n : ℕ) → LastTold (step site limits w Begin) (Begins (Nothing v)) → LastTold (fold (step site limits) w (Begin ∷ publishes n)) NothingChanged →
-      Settles site limits w (Begin ∷ publishes n) (record { version = v; expanded = 0; joined = 0; kept = length (live (content site w.commits)) })
+  by_work : (k m n : ℕ) (counts : Counts) →
+      LastTold (fold (step site limits) w (settling k m)) (Finished (Report counts)) →
+      LastTold (fold (step site limits) w (settling k m ++ publishes n)) NothingChanged →
+      Settles site limits w (settling k m ++ publishes n) counts
+  at_once : (v n : ℕ) → LastTold (step site limits w Begin) (Begins (Nothing v)) →
+      LastTold (fold (step site limits) w (Begin ∷ publishes n)) NothingChanged →
+      Settles site limits w (Begin
+      ∷ publishes n) (record {
+        version = v;
+        expanded = 0;
+        joined = 0;
+        kept = length (live (content site w.commits));
+      })
 
 -- this is written of the reply to an event
 abbrev pub IsTold : Parts → Limits → World → Event → Word → Type 0
-IsTold site limits w event out = (reply : Told) × LastTold (step site limits w event) reply × (out ≡ told_text reply)
+IsTold site limits w event out = (reply : Told) × LastTold (step site limits w event) reply
+    × (out ≡ told_text reply)
 
--- the events that a command of this line stands for, where the machine is so, and what is written of their replies. No miss is kept yet
+-- the events that a command of this line stands for, where the machine is so, and what is written of their
+-- replies. No miss is kept yet
 abbrev pub StandsFor : Parts → Limits → World → ℕ → Command → List Event → Word → Type 0
-StandsFor site limits w number (command.Commit commit) events out = (events ≡ Comes commit ∷ []) × IsTold site limits w (Comes commit) out
+StandsFor site limits w number (command.Commit commit) events out = (events ≡ Comes commit ∷ [])
+    × IsTold site limits w (Comes commit) out
 StandsFor site limits w number command.Settle events out =
     let new = fold (step site limits) w events in
-    (counts : Counts) × Settles site limits w events counts × (out ≡ settled_text (length new.log) (length new.log - length w.log) counts)
+    (counts : Counts) × Settles site limits w events counts
+    × (out ≡ settled_text (length new.log) (length new.log - length w.log) counts)
 StandsFor site limits w number (command.Node node capacity mode) events out =
     (events ≡ Node node capacity mode ∷ []) × IsTold site limits w (Node node capacity mode) out
 StandsFor site limits w number (command.Get node pass path) events out =
@@ -54,7 +68,10 @@ StandsFor site limits w number command.NotBuilt events out = (events ≡ []) × 
 abbrev pub MachinePlays : Parts → Limits → List Event → ℕ → List Command → Word → Word → Type 0
 MachinePlays site limits before number [] last out = out ≡ last
 MachinePlays site limits before number (command ∷ rest) last out =
-    (events : List Event) × ((said : Word) × ((more : Word) × StandsFor site limits (run site limits before) (number + 1) command events said × (out ≡ said ++ more)
+    (events : List Event)
+    × ((said : Word) × ((more : Word)
+    × StandsFor site limits (run site limits before) (number + 1) command events said
+    × (out ≡ said ++ more)
     × MachinePlays site limits (before ++ events) (number + 1) rest last more))
 
 abbrev pub command_bytes : Command → ℕ
@@ -63,7 +80,8 @@ command_bytes _ = 0
 
 -- the usual room for rows, and a journal with room for just what these commands commit: it is never full
 abbrev pub limits_for : List Command → Limits
-limits_for commands = record { rows = usual_limits.rows; commits = length commands; bytes = sum_by command_bytes commands }
+limits_for commands =
+    record { rows = usual_limits.rows; commits = length commands; bytes = sum_by command_bytes commands }
 
 -- where the machine is between two commands: no work is open, and the slot of a settle is empty
 pub record IsReady (w : World) : Type 0 where
@@ -76,19 +94,25 @@ StartsReady = IsReady first_world
 
 -- and after each
 abbrev pub CommandsLeaveReady : Type 0
-CommandsLeaveReady = (site : Parts) (limits : Limits) (w : World) (number : ℕ) (command : Command) (events : List Event) (out : Word) → EmbedsEarlier (start site) → IsReady w →
+CommandsLeaveReady =
+    (site : Parts) (limits : Limits) (w : World) (number : ℕ) (command : Command) (events : List Event)
+    (out : Word) → EmbedsEarlier (start site) → IsReady w →
     StandsFor site limits w number command events out → IsReady (fold (step site limits) w events)
 
 -- each list of commands is answered by the machine, and in one way
 abbrev pub PlaysExist : Type 0
-PlaysExist = (site : Parts) (limits : Limits) (number : ℕ) (commands : List Command) (last : Word) → EmbedsEarlier (start site) →
+PlaysExist = (site : Parts) (limits : Limits) (number : ℕ) (commands : List Command) (last : Word) →
+    EmbedsEarlier (start site) →
     (out : Word) × MachinePlays site limits [] number commands last out
 
 abbrev pub PlaysAreOne : Type 0
-PlaysAreOne = (site : Parts) (limits : Limits) (number : ℕ) (commands : List Command) (last a b : Word) → EmbedsEarlier (start site) →
-    MachinePlays site limits [] number commands last a → MachinePlays site limits [] number commands last b → a ≡ b
+PlaysAreOne = (site : Parts) (limits : Limits) (number : ℕ) (commands : List Command) (last a b : Word) →
+    EmbedsEarlier (start site) →
+    MachinePlays site limits [] number commands last a → MachinePlays site limits [] number commands last b →
+    a ≡ b
 
 -- once settled, nothing is pending
 abbrev pub SettlesLeaveNothing : Type 0
-SettlesLeaveNothing = (site : Parts) (limits : Limits) (w : World) (events : List Event) (counts : Counts) → EmbedsEarlier (start site) → IsReady w →
+SettlesLeaveNothing = (site : Parts) (limits : Limits) (w : World) (events : List Event) (counts : Counts) →
+    EmbedsEarlier (start site) → IsReady w →
     Settles site limits w events counts → NothingPending site (fold (step site limits) w events)

@@ -20,10 +20,15 @@ medal_site = record {
       record {
         name = codes "medals";
         kind = None;
-        body = s.Say (codes "[") ∷ (s.Each (codes "athlete") None None (s.Field (codes "gold") ∷ []) ∷ (s.Say (codes "]") ∷ []));
+        body = s.Say (codes "[")
+            ∷ (s.Each (codes "athlete") None None (s.Field (codes "gold") ∷ []) ∷ (s.Say (codes "]") ∷ []));
       } ∷
       (record { name = codes "home"; kind = None; body = s.Embed (codes "medals") None ∷ [] } ∷
-      (record { name = codes "athlete_page"; kind = Some (codes "athlete"); body = s.Field (codes "name") ∷ (s.Embed (codes "medals") None ∷ []) } ∷ []));
+      (record {
+        name = codes "athlete_page";
+        kind = Some (codes "athlete");
+        body = s.Field (codes "name") ∷ (s.Embed (codes "medals") None ∷ []);
+      } ∷ []));
   pages = Fixed (codes "/") (codes "home") ∷ (Family (codes "/athlete") (codes "athlete_page") ∷ []);
 }
 
@@ -44,13 +49,20 @@ athlete = record { template = 2; key = Some (codes "a1") }
 
 -- both pages show these medals
 abbrev pub home_look : Word → Look
-home_look shown = record { obj = home; bytes = shown; uses = (medals, shown) ∷ ((home, shown) ∷ []); links = [] }
+home_look shown = record {
+  obj = home;
+  bytes = shown;
+  uses = (medals, shown) ∷ ((home, shown) ∷ []);
+  links = [];
+}
 
 abbrev pub athlete_look : Word → Word → Look
-athlete_look shown bytes = record { obj = athlete; bytes = bytes; uses = (medals, shown) ∷ ((athlete, bytes) ∷ []); links = [] }
+athlete_look shown bytes =
+    record { obj = athlete; bytes = bytes; uses = (medals, shown) ∷ ((athlete, bytes) ∷ []); links = [] }
 
 abbrev pub put_athlete : Word → Word → Commit
-put_athlete gold name = Put (codes "athlete") (codes "a1") ((codes "gold", gold) ∷ ((codes "name", name) ∷ [])) ∷ []
+put_athlete gold name =
+    Put (codes "athlete") (codes "a1") ((codes "gold", gold) ∷ ((codes "name", name) ∷ [])) ∷ []
 
 abbrev pub first : Commit
 first = put_athlete (codes "1") (codes "Ann")
@@ -73,11 +85,13 @@ athlete_bundle = bundle_of first_target 1 [] (athlete_path ∷ [])
 abbrev pub shared_bundle : Bundle
 shared_bundle = bundle_of second_target 2 (second ∷ []) (home_path ∷ (athlete_path ∷ []))
 
--- at first each page goes out by itself; once the fragment that both use is published and changes, they go out together
+-- at first each page goes out by itself; once the fragment that both use is published and changes, they go
+-- out together
 pub record SharedFragmentRow : Type 0 where
   pub first : bundle (edition []) first_target ≡ Some (home_path ∷ [])
   pub second : bundle (edition (home_bundle ∷ [])) first_target ≡ Some (athlete_path ∷ [])
-  pub together : bundle (edition (home_bundle ∷ (athlete_bundle ∷ []))) second_target ≡ Some (home_path ∷ (athlete_path ∷ []))
+  pub together : bundle (edition (home_bundle ∷ (athlete_bundle ∷ []))) second_target ≡ Some (home_path
+      ∷ (athlete_path ∷ []))
   pub puts : shared_bundle.puts ≡
       record { path = home_path; version = 2; look = home_look (codes "[2]") } ∷
       (record { path = athlete_path; version = 2; look = athlete_look (codes "[2]") (codes "Anna[2]") } ∷ [])

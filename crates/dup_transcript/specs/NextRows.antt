@@ -20,7 +20,8 @@ chain = record {
       record {
         name = codes "event_page";
         kind = Some (codes "event");
-        body = s.Field (codes "title") ∷ (s.Link (codes "event_page") (Some (codes "next")) (s.Say (codes "next") ∷ []) ∷ []);
+        body = s.Field (codes "title")
+            ∷ (s.Link (codes "event_page") (Some (codes "next")) (s.Say (codes "next") ∷ []) ∷ []);
       } ∷ [];
   pages = Family (codes "/event") (codes "event_page") ∷ [];
 }
@@ -42,7 +43,8 @@ look_of key bytes links =
 
 -- e1 names e2 as its next one, which comes with the second commit
 abbrev pub one_first : Commit
-one_first = Put (codes "event") (codes "e1") ((codes "next", codes "e2") ∷ ((codes "title", codes "A") ∷ [])) ∷ []
+one_first = Put (codes "event") (codes "e1") ((codes "next", codes "e2") ∷ ((codes "title", codes "A") ∷ []))
+    ∷ []
 
 abbrev pub then_two : Commit
 then_two = Put (codes "event") (codes "e2") ((codes "title", codes "B") ∷ []) ∷ []
@@ -50,11 +52,17 @@ then_two = Put (codes "event") (codes "e2") ((codes "title", codes "B") ∷ []) 
 abbrev pub one_alone : Bundle
 one_alone = bundle_of (target_of (one_first ∷ [])) 1 (one_first ∷ []) (page_one ∷ [])
 
--- the first page goes out alone, without a link; then it needs the second, which it links to and which the edition lacks
+-- the first page goes out alone, without a link; then it needs the second, which it links to and which the
+-- edition lacks
 pub record LinkNeedsPageRow : Type 0 where
   pub first : bundle (edition []) (target_of (one_first ∷ [])) ≡ Some (page_one ∷ [])
-  pub first_puts : one_alone.puts ≡ record { path = page_one; version = 1; look = look_of (codes "e1") (codes "Anext") [] } ∷ []
-  pub together : bundle (edition (one_alone ∷ [])) (target_of (one_first ∷ (then_two ∷ []))) ≡ Some (page_one ∷ (page_two ∷ []))
+  pub first_puts : one_alone.puts ≡ record {
+    path = page_one;
+    version = 1;
+    look = look_of (codes "e1") (codes "Anext") [];
+  } ∷ []
+  pub together : bundle (edition (one_alone ∷ [])) (target_of (one_first ∷ (then_two ∷ []))) ≡ Some (page_one
+      ∷ (page_two ∷ []))
 
 -- e2 names e1 as its next one, and then e1 goes
 abbrev pub both : Commit
@@ -78,8 +86,17 @@ last_bundle = bundle_of (target_of (both ∷ (one_goes ∷ []))) 2 (one_goes ∷
 pub record LinkerChangesRow : Type 0 where
   pub first : bundle (edition []) (target_of (both ∷ [])) ≡ Some (page_one ∷ [])
   pub second : bundle (edition (linked_page ∷ [])) (target_of (both ∷ [])) ≡ Some (page_two ∷ [])
-  pub second_puts : linking_page.puts ≡ record { path = page_two; version = 1; look = look_of (codes "e2") (codes "B<a href=\"/event/e1\">next</a>") (page_one ∷ []) } ∷ []
+  pub second_puts : linking_page.puts ≡ record {
+    path = page_two;
+    version = 1;
+    look = look_of (codes "e2") (codes "B<a href=\"/event/e1\">next</a>") (page_one ∷ []);
+  } ∷ []
   pub rest : bundle (edition (linked_page ∷ (linking_page ∷ []))) (target_of (both ∷ [])) ≡ None
-  pub together : bundle (edition (linked_page ∷ (linking_page ∷ []))) (target_of (both ∷ (one_goes ∷ []))) ≡ Some (page_one ∷ (page_two ∷ []))
-  pub puts : last_bundle.puts ≡ record { path = page_two; version = 2; look = look_of (codes "e2") (codes "Bnext") [] } ∷ []
+  pub together : bundle (edition (linked_page ∷ (linking_page ∷ []))) (target_of (both
+      ∷ (one_goes ∷ []))) ≡ Some (page_one ∷ (page_two ∷ []))
+  pub puts : last_bundle.puts ≡ record {
+    path = page_two;
+    version = 2;
+    look = look_of (codes "e2") (codes "Bnext") [];
+  } ∷ []
   pub drops : last_bundle.drops ≡ page_one ∷ []

@@ -18,7 +18,8 @@ value_behind a (b ∷ bs) = value_behind (10 * a + (b - 48)) bs
 
 -- the number that a word writes, up to 2^64 - 1
 abbrev pub number_of : Word → Option ℕ
-number_of w = if leads w && list_all is_digit w && nat_lt (value_behind 0 w) (2 ^ 64) then Some (value_behind 0 w) else None
+number_of w = if leads w && list_all is_digit w
+    && nat_lt (value_behind 0 w) (2 ^ 64) then Some (value_behind 0 w) else None
 
 -- a word writes a number exactly where it is the number's decimal text, up to 2^64 - 1
 abbrev pub NumbersAreDecimal : Type 0

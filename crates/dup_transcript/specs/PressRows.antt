@@ -51,7 +51,11 @@ working work slots = record {
 
 -- the page was handed at this version, and is brought back to a work at version 2
 abbrev pub brought_back : fin.FinMap nat_cmp Slot → Word → Work → World
-brought_back slots key work = put_from events_site 1 (Some (record { obj = record { template = 0; key = Some key }; version = 1 })) (working work slots)
+brought_back slots key work =
+    put_from events_site 1 (Some (record {
+      obj = record { template = 0; key = Some key };
+      version = 1;
+    })) (working work slots)
 
 abbrev pub one_done : Work
 one_done = record (first_work 2) { done = page ∷ []; expanded = 1 }
@@ -60,15 +64,22 @@ abbrev pub all_looked : Work
 all_looked = record one_done { looked = page ∷ []; once = page ∷ []; joined = 1 }
 
 pub record PressRow (slots : fin.FinMap nat_cmp Slot) : Type 0 where
-  pub same : (step events_site usual_limits (working (first_work 2) slots) Begin).replies ≡ Begins (Begun.Same 2) ∷ []
-  pub moved : (step events_site usual_limits (working (first_work 1) slots) Begin).replies ≡ Begins (Begun.Opened 2 1) ∷ []
-  pub stale : (brought_back slots (codes "e1") (first_work 2)).replies ≡ Stale (item.Field 0 (codes "e1") 0) (seen.Text (codes "A")) (seen.Text (codes "B")) ∷ []
+  pub same : (step events_site usual_limits (working (first_work 2) slots) Begin).replies ≡ Begins
+      (Begun.Same 2) ∷ []
+  pub moved : (step events_site usual_limits (working (first_work 1) slots) Begin).replies ≡ Begins
+      (Begun.Opened 2 1) ∷ []
+  pub stale : (brought_back slots (codes "e1") (first_work 2)).replies ≡ Stale (item.Field 0 (codes "e1") 0)
+      (seen.Text (codes "A")) (seen.Text (codes "B")) ∷ []
   pub kept : (brought_back slots (codes "e1") (first_work 1)).replies ≡ Kept page 0 ∷ []
   pub unasked : (brought_back slots (codes "e1") one_done).replies ≡ Unasked page ∷ []
-  pub waiting : (step events_site usual_limits (working (first_work 2) slots) Finish).replies ≡ Finished (Ended.Waiting 1) ∷ []
-  pub join_waiting : (step events_site usual_limits (working (first_work 2) slots) Join).replies ≡ Joins (Joined.Waiting 1) ∷ []
-  pub unjoined : (step events_site usual_limits (working one_done slots) Finish).replies ≡ Finished (Ended.Unjoined 1) ∷ []
-  pub joined : (step events_site usual_limits (working one_done slots) Join).replies ≡ Joins (Joined.Level 1) ∷ []
+  pub waiting : (step events_site usual_limits (working (first_work 2) slots) Finish).replies ≡ Finished
+      (Ended.Waiting 1) ∷ []
+  pub join_waiting : (step events_site usual_limits (working (first_work 2) slots) Join).replies ≡ Joins
+      (Joined.Waiting 1) ∷ []
+  pub unjoined : (step events_site usual_limits (working one_done slots) Finish).replies ≡ Finished
+      (Ended.Unjoined 1) ∷ []
+  pub joined : (step events_site usual_limits (working one_done slots) Join).replies ≡ Joins (Joined.Level 1)
+      ∷ []
   pub done : (step events_site usual_limits (working all_looked slots) Join).replies ≡ Joins Joined.Done ∷ []
   pub report : (step events_site usual_limits (working all_looked slots) Finish).replies
       ≡ Finished (Ended.Report (record { version = 2; expanded = 1; joined = 1; kept = 0 })) ∷ []

@@ -25,7 +25,8 @@ abbrev pub refusal_line : Option Refusal → Word
 refusal_line None = []
 refusal_line (Some why) = refusal_text why
 
--- the answer to the command in the line of this number: a refusal is told, and an accepted commit writes nothing
+-- the answer to the command in the line of this number: a refusal is told, and an accepted commit writes
+-- nothing
 abbrev pub render_answer : Parts → List Commit → ℕ → Command → Word
 render_answer site commits number (command.Commit commit) = refusal_line (refused_behind site commits commit)
 render_answer site commits number command.Blank = []
@@ -35,7 +36,8 @@ render_answer site commits number _ = not_built_text number
 abbrev pub render_answers : Parts → List Commit → ℕ → List Command → Word
 render_answers site commits number [] = []
 render_answers site commits number (command ∷ rest) =
-    render_answer site commits (number + 1) command ++ render_answers site (accepted site commits command) (number + 1) rest
+    render_answer site commits (number + 1) command
+    ++ render_answers site (accepted site commits command) (number + 1) rest
 
 -- the content after commands
 abbrev pub last_content : Parts → List Commit → List Command → Content
@@ -43,7 +45,8 @@ last_content site commits commands = content site (fold (accepted site) commits 
 
 -- a page: its path and its length in a line, and then what its object shows
 abbrev pub rendered_page : Content → Path × Obj → Word
-rendered_page c page = line (codes "page " ++ page.0 ++ codes " " ++ decimal (length (show c page.1))) ++ line (show c page.1)
+rendered_page c page =
+    line (codes "page " ++ page.0 ++ codes " " ++ decimal (length (show c page.1))) ++ line (show c page.1)
 
 -- each page, in the order of the paths
 abbrev pub rendered_pages : Content → Word

@@ -33,26 +33,33 @@ results = record {
         name = codes "line";
         kind = Some (codes "result");
         body =
-            s.Say (codes "<li>") ∷ (s.Field (codes "place") ∷ (s.Say (codes ":") ∷ (s.Field (codes "who") ∷ (s.Say (codes "</li>") ∷ []))));
+            s.Say (codes "<li>")
+            ∷ (s.Field (codes "place")
+            ∷ (s.Say (codes ":") ∷ (s.Field (codes "who") ∷ (s.Say (codes "</li>") ∷ []))));
       } ∷
       (record {
         name = codes "event_page";
         kind = Some (codes "event");
         body =
             s.Say (codes "<h1>") ∷ (s.Field (codes "title") ∷ (s.Say (codes "</h1>") ∷
-            (s.Each (codes "result") (Some (codes "event")) (Some (codes "place")) (s.Embed (codes "line") None ∷ []) ∷ [])));
+            (s.Each (codes "result") (Some (codes "event")) (Some (codes "place"))
+            (s.Embed (codes "line") None ∷ []) ∷ [])));
       } ∷ []);
   pages = Family (codes "/event") (codes "event_page") ∷ [];
 }
 
 abbrev pub result_of : Word → Word → Word → Edit
-result_of key who place = Put (codes "result") key ((codes "event", codes "e1") ∷ ((codes "place", place) ∷ ((codes "who", who) ∷ [])))
+result_of key who place =
+    Put (codes "result") key ((codes "event", codes "e1")
+    ∷ ((codes "place", place) ∷ ((codes "who", who) ∷ [])))
 
 -- an event with three results, placed 2, 10 and 9
 abbrev pub first_commit : Commit
 first_commit =
     Put (codes "event") (codes "e1") ((codes "title", codes "100m") ∷ []) ∷
-    (result_of (codes "r1") (codes "Ann") (codes "2") ∷ (result_of (codes "r2") (codes "Bob") (codes "10") ∷ (result_of (codes "r3") (codes "Cy") (codes "9") ∷ [])))
+    (result_of (codes "r1") (codes "Ann") (codes "2")
+    ∷ (result_of (codes "r2") (codes "Bob") (codes "10")
+    ∷ (result_of (codes "r3") (codes "Cy") (codes "9") ∷ [])))
 
 -- who came in second is Ana now
 abbrev pub second_commit : Commit
@@ -102,17 +109,23 @@ pub record EventPageRow : Type 0 where
   pub group : value first_version of_event ≡ seen.Keys (codes "r1" ∷ (codes "r2" ∷ (codes "r3" ∷ [])))
   pub notes : notes first_version event_page ≡
       (item.Field 0 (codes "e1") 0, seen.Text (codes "100m")) ∷
-      ((place_of (codes "r1"), seen.Text (codes "2")) ∷ ((place_of (codes "r2"), seen.Text (codes "10")) ∷ ((place_of (codes "r3"), seen.Text (codes "9")) ∷
+      ((place_of (codes "r1"), seen.Text (codes "2"))
+      ∷ ((place_of (codes "r2"), seen.Text (codes "10"))
+      ∷ ((place_of (codes "r3"), seen.Text (codes "9")) ∷
       ((of_event, seen.Keys (codes "r1" ∷ (codes "r2" ∷ (codes "r3" ∷ [])))) ∷ []))))
   pub skeleton : skeleton first_version event_page ≡ record {
-    pieces = piece.Plain (codes "<h1>100m</h1>") ∷ (piece.Hole (line (codes "r1")) ∷ (piece.Hole (line (codes "r3")) ∷ (piece.Hole (line (codes "r2")) ∷ [])));
+    pieces = piece.Plain (codes "<h1>100m</h1>")
+        ∷ (piece.Hole (line (codes "r1"))
+        ∷ (piece.Hole (line (codes "r3")) ∷ (piece.Hole (line (codes "r2")) ∷ [])));
     links = [];
   }
-  pub uses : uses first_version event_page ≡ line (codes "r1") ∷ (line (codes "r2") ∷ (line (codes "r3") ∷ (event_page ∷ [])))
+  pub uses : uses first_version event_page ≡ line (codes "r1")
+      ∷ (line (codes "r2") ∷ (line (codes "r3") ∷ (event_page ∷ [])))
   pub look : look first_version event_page ≡ page_look
   pub pages : pages first_version ≡ (codes "/event/e1", event_page) ∷ []
   pub target : target first_version ≡ fin.from_entries ((codes "/event/e1", page_look) ∷ [])
-  pub live : live first_version ≡ line (codes "r1") ∷ (line (codes "r2") ∷ (line (codes "r3") ∷ (event_page ∷ [])))
+  pub live : live first_version ≡ line (codes "r1")
+      ∷ (line (codes "r2") ∷ (line (codes "r3") ∷ (event_page ∷ [])))
 
 -- the second commit touches one line, and so affects the page that embeds it
 pub record SecondResultRow : Type 0 where
@@ -127,9 +140,14 @@ abbrev pub tight : Limits
 tight = record { rows = 1; commits = 2; bytes = 1000 }
 
 pub record RefusalRows : Type 0 where
-  pub no_row : refusal (start results) (Put (codes "event") (codes "e2") ((codes "title", codes "x") ∷ []) ∷ (Remove (codes "event") (codes "e9") ∷ [])) 4096 ≡ Some (NoRow 2)
-  pub unknown_kind : refusal (start results) (Put (codes "race") (codes "e1") ((codes "title", codes "x") ∷ []) ∷ []) 4096 ≡ Some (UnknownKind 1)
-  pub unknown_field : refusal (start results) (Put (codes "event") (codes "e1") ((codes "name", codes "x") ∷ []) ∷ []) 4096 ≡ Some (UnknownField 1)
-  pub kind_full : commit_refusal results tight (title_of (codes "e1") (codes "A") ∷ []) (title_of (codes "e2") (codes "A")) ≡ Some (KindFull 1)
-  pub journal_full : commit_refusal results tight (title_of (codes "e1") (codes "A") ∷ (title_of (codes "e1") (codes "B") ∷ [])) (title_of (codes "e1") (codes "C"))
+  pub no_row : refusal (start results) (Put (codes "event") (codes "e2") ((codes "title", codes "x") ∷ [])
+      ∷ (Remove (codes "event") (codes "e9") ∷ [])) 4096 ≡ Some (NoRow 2)
+  pub unknown_kind : refusal (start results) (Put (codes "race") (codes "e1") ((codes "title", codes "x")
+      ∷ []) ∷ []) 4096 ≡ Some (UnknownKind 1)
+  pub unknown_field : refusal (start results) (Put (codes "event") (codes "e1") ((codes "name", codes "x")
+      ∷ []) ∷ []) 4096 ≡ Some (UnknownField 1)
+  pub kind_full : commit_refusal results tight (title_of (codes "e1") (codes "A")
+      ∷ []) (title_of (codes "e2") (codes "A")) ≡ Some (KindFull 1)
+  pub journal_full : commit_refusal results tight (title_of (codes "e1") (codes "A")
+      ∷ (title_of (codes "e1") (codes "B") ∷ [])) (title_of (codes "e1") (codes "C"))
       ≡ Some (JournalFull 2 26)

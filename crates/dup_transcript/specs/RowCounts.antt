@@ -42,4 +42,5 @@ pub record CountsRows (a : Option Content) (b : Content) : Type 0 where
   pub keeps : length (without (is_in (joined a b)) (live b)) + renewed_count a b ≡ length (keys b 0)
 
 abbrev pub RowsAreCounted : Type 0
-RowsAreCounted = (site : Parts) (a : Option Content) (b : Content) → is_first_form site ≡ true → IsSettledOf site a → IsOf site b → TablesRise b → CountsRows a b
+RowsAreCounted = (site : Parts) (a : Option Content) (b : Content) → is_first_form site ≡ true →
+    IsSettledOf site a → IsOf site b → TablesRise b → CountsRows a b

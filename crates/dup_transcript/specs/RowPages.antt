@@ -38,4 +38,5 @@ pub record HasRowPages (site : Parts) (c : Content) : Type 0 where
   pub objects : live c ≡ map row_object (keys c 0)
 
 abbrev pub RowsHavePages : Type 0
-RowsHavePages = (site : Parts) (c : Content) → is_first_form site ≡ true → IsOf site c → TablesRise c → HasRowPages site c
+RowsHavePages = (site : Parts) (c : Content) → is_first_form site ≡ true → IsOf site c → TablesRise c →
+    HasRowPages site c

@@ -1,4 +1,5 @@
--- What a script makes and is answered without the events of the machine, where the site is of the first form and each commit is one put: the law `sessions_law`.
+-- What a script makes and is answered without the events of the machine, where the site is of the first form
+-- and each commit is one put: the law `sessions_law`.
 use Rattle.std.specs.Prelude.{◌≡◌, ◌↔◌, ℕ, ◌+◌, ◌-◌, Bool, true, false, not, List, [], ◌∷◌, ◌++◌, map, Option, Some, None, length, nat_le, nat_eq, if◌then◌else◌}
 use Rattle.std.specs.List.{AllByRecursion, fold, list_any}
 use Rattle.std.specs.FinMap as fin
@@ -25,7 +26,8 @@ use Rattle.dup_transcript.specs.Texts.{told_text, settled_text, not_built_text}
 use Rattle.dup_transcript.specs.Commands.{Command, is_one_put}
 use Rattle.dup_transcript.specs.declared.command.Command.TheVariants as command
 
--- the commits that were accepted; the version that was last settled, if any; the newest edition and its number; and the nodes' numbers
+-- the commits that were accepted; the version that was last settled, if any; the newest edition and its
+-- number; and the nodes' numbers
 pub record Session : Type 0 where
   pub commits : List Commit
   pub target : Option ℕ
@@ -54,7 +56,10 @@ pub record Published : Type 0 where
 abbrev pub with_page : ℕ → Published → Path × Look → Published
 with_page version p at =
     if shows (fin.get p.edition at.0) at.1 then p
-    else (record { number = p.number + 1; edition = fin.insert p.edition at.0 (record { path = at.0; version = version; look = at.1 }) })
+    else (record {
+      number = p.number + 1;
+      edition = fin.insert p.edition at.0 (record { path = at.0; version = version; look = at.1 });
+    })
 
 -- the pages of a version, published in path order
 abbrev pub with_pages : ℕ → List (Path × Look) → Published → Published
@@ -62,7 +67,10 @@ with_pages version site p = fold (with_page version) p site
 
 abbrev pub settled_edition : Parts → Session → Published
 settled_edition site s =
-    with_pages (length s.commits) (whole_site (content site s.commits)) (record { number = s.number; edition = s.edition })
+    with_pages (length s.commits) (whole_site (content site s.commits)) (record {
+      number = s.number;
+      edition = s.edition;
+    })
 
 abbrev pub settled : Parts → Session → Session
 settled site s = record s {
@@ -105,7 +113,8 @@ page_text edition (Some page) = told_text (Found edition page MissUnkept)
 abbrev pub get_text : Session → ℕ → ℕ → Path → Word
 get_text s node pass path =
     if not (has_node s node) then told_text (NoNode node) else
-    (if nat_le pass s.number then page_text s.number (fin.get s.edition path) else told_text (Ahead pass s.number))
+    (if nat_le pass s.number then page_text s.number (fin.get s.edition path)
+    else told_text (Ahead pass s.number))
 
 -- the answer to the command in the line of this number
 abbrev pub play_answer : Parts → Session → ℕ → Command → Word
@@ -120,9 +129,11 @@ play_answer site s number command.NotBuilt = not_built_text number
 abbrev pub PlaysCommands : Parts → Session → ℕ → List Command → Word → Word → Type 0
 PlaysCommands site s number [] last out = out ≡ last
 PlaysCommands site s number (command ∷ rest) last out =
-    (more : Word) × (out ≡ play_answer site s (number + 1) command ++ more) × PlaysCommands site (after_command site s command) (number + 1) rest last more
+    (more : Word) × (out ≡ play_answer site s (number + 1) command ++ more)
+    × PlaysCommands site (after_command site s command) (number + 1) rest last more
 
--- what is written for a script, behind a session and so many lines: the answers to its commands, and what is too long
+-- what is written for a script, behind a session and so many lines: the answers to its commands, and what is
+-- too long
 abbrev pub Writes : (Word → Command) → Parts → Session → ℕ → Reading → Word → Type 0
 Writes feed site s number input out = PlaysCommands site s number (commands feed input) (too_long input) out
 
@@ -133,5 +144,7 @@ IsPutting _ = Unit {0}
 
 -- so is written just what the machine replies
 abbrev pub SessionsAreTheMachines : Type 0
-SessionsAreTheMachines = (site : Parts) (number : ℕ) (commands : List Command) (last out : Word) → is_first_form site ≡ true → AllByRecursion IsPutting commands →
-    PlaysCommands site first_session number commands last out ↔ MachinePlays site (limits_for commands) [] number commands last out
+SessionsAreTheMachines = (site : Parts) (number : ℕ) (commands : List Command) (last out : Word) →
+    is_first_form site ≡ true → AllByRecursion IsPutting commands →
+    PlaysCommands site first_session number commands last out
+    ↔ MachinePlays site (limits_for commands) [] number commands last out

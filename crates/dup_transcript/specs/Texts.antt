@@ -18,7 +18,8 @@ refusal_text (JournalFull commits bytes) = line (codes "refused journal full")
 -- a page of an edition: a line, and its bytes. Nothing is kept in a cache yet, so each is a miss
 abbrev pub found_text : ℕ → Page → Word
 found_text edition page =
-    line (codes "found " ++ decimal edition ++ codes " " ++ decimal page.version ++ codes " miss " ++ decimal (length page.look.bytes)) ++ line page.look.bytes
+    line (codes "found " ++ decimal edition ++ codes " " ++ decimal page.version ++ codes " miss "
+    ++ decimal (length page.look.bytes)) ++ line page.look.bytes
 
 -- what is written of one reply, of those that a script meets today
 abbrev pub told_text : Told → Word
@@ -35,8 +36,10 @@ told_text _ = []
 -- what is written of settling: the edition, the bundles that made it, and what the work's report says
 abbrev pub settled_text : ℕ → ℕ → Counts → Word
 settled_text edition bundles counts =
-    line (codes "settled " ++ decimal counts.version ++ codes " edition " ++ decimal edition ++ codes " bundles " ++ decimal bundles
-    ++ codes " expanded " ++ decimal counts.expanded ++ codes " joined " ++ decimal counts.joined ++ codes " kept " ++ decimal counts.kept)
+    line (codes "settled " ++ decimal counts.version ++ codes " edition " ++ decimal edition
+    ++ codes " bundles " ++ decimal bundles
+    ++ codes " expanded " ++ decimal counts.expanded ++ codes " joined " ++ decimal counts.joined
+    ++ codes " kept " ++ decimal counts.kept)
 
 -- what is written of a line that isn't built
 abbrev pub not_built_text : ℕ → Word

@@ -16,7 +16,8 @@ use Rattle.dup_transcript.specs.MachinePlays.{MachinePlays, limits_for}
 use Rattle.dup_transcript.specs.declared.task.Task.{Task}
 use Rattle.dup_transcript.specs.declared.task.Task.TheVariants.{Play, Check, Render}
 
--- The texts that have grammars of their own, which stand above: the good site that a site text gives, or why it gives none;
+-- The texts that have grammars of their own, which stand above: the good site that a site text gives, or why
+-- it gives none;
 -- the canonical text of a site; and what a feed message commands.
 pub record Grammars : Type 0 where
   pub site : Word → Result Parts SiteTextRefusal
@@ -51,7 +52,8 @@ abbrev pub commands : (Word → Command) → Reading → List Command
 commands feed (Next text rest) = line_command feed text ∷ commands feed rest
 commands feed _ = []
 
--- what is written for a script behind a site text of so many lines: what the machine replies to its commands, and what is too long
+-- what is written for a script behind a site text of so many lines: what the machine replies to its commands,
+-- and what is too long
 abbrev pub PlaysScript : (Word → Command) → Parts → ℕ → Reading → Word → Type 0
 PlaysScript feed site number input out =
     let all = commands feed input in
@@ -60,7 +62,9 @@ PlaysScript feed site number input out =
 -- a site is played: `site ok`, and then the answers to the script
 abbrev pub Plays : (Word → Command) → Parts → Reading → ℕ → Word → Type 0
 Plays feed site input status out =
-    (status ≡ ending input) × ((more : Word) × (out ≡ site_ok ++ more) × PlaysScript feed site (site_lines input) (script input) more)
+    (status ≡ ending input)
+    × ((more : Word) × (out ≡ site_ok ++ more)
+    × PlaysScript feed site (site_lines input) (script input) more)
 
 -- what stands behind the answers of a render: the pages of the last content, where nothing is too long
 abbrev pub render_end : Content → Reading → Word
@@ -69,7 +73,8 @@ render_end c input = if nat_eq (ending input) 0 then rendered_pages c else too_l
 -- what a render writes for the lines that it reads, behind these commits and so many lines
 abbrev pub rendered : (Word → Command) → Parts → List Commit → ℕ → Reading → Word
 rendered feed site commits number input =
-    render_answers site commits number (commands feed input) ++ render_end (last_content site commits (commands feed input)) input
+    render_answers site commits number (commands feed input)
+    ++ render_end (last_content site commits (commands feed input)) input
 
 -- what is written for the lines behind the site text, from the site without rows
 abbrev pub RendersLines : (Word → Command) → Parts → ℕ → Reading → Word → Type 0
@@ -77,7 +82,8 @@ RendersLines feed site number input out = out ≡ rendered feed site [] number i
 
 -- a site is rendered: the answers to the lines behind its text, and then each page
 abbrev pub Renders : (Word → Command) → Parts → Reading → ℕ → Word → Type 0
-Renders feed site input status out = (status ≡ ending input) × RendersLines feed site (site_lines input) (script input) out
+Renders feed site input status out = (status ≡ ending input)
+    × RendersLines feed site (site_lines input) (script input) out
 
 -- a site is checked: its canonical text, whatever stands behind the site text
 abbrev pub Checks : Word → ℕ → Word → Type 0
@@ -108,7 +114,8 @@ IsTranscript g task input status out = DoesRead g task (site_is_read input) inpu
 
 -- each input has a transcript, and only one
 abbrev pub TranscriptsExist : Type 0
-TranscriptsExist = (g : Grammars) (task : Task) (input : Reading) → (status : ℕ) × ((out : Word) × IsTranscript g task input status out)
+TranscriptsExist = (g : Grammars) (task : Task) (input : Reading) → (status : ℕ)
+    × ((out : Word) × IsTranscript g task input status out)
 
 abbrev pub TranscriptsAreOne : Type 0
 TranscriptsAreOne = (g : Grammars) (task : Task) (input : Reading) (s t : ℕ) (out other : Word) →

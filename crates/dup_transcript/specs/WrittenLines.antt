@@ -26,7 +26,8 @@ pub record IsPlainLine (text : Word) : Type 0 where
 
 -- plain lines within the limit of an input are read again, one after another
 abbrev pub LinesAreRead : Type 0
-LinesAreRead = (lines : List Word) → AllByRecursion IsPlainLine lines → length (text_of lines) ≤ max_input → reading 0 0 (text_of lines) ≡ reading_of lines
+LinesAreRead = (lines : List Word) → AllByRecursion IsPlainLine lines → length (text_of lines) ≤ max_input →
+    reading 0 0 (text_of lines) ≡ reading_of lines
 
 -- and they are the lines of the text
 abbrev pub LinesAreFound : Type 0

@@ -36,7 +36,8 @@ pub fn transcripts_law()
     ensures one { TranscriptsAreOne }
 {}
 
-/// The machine answers each list of commands, and in one way. No work is open between two commands, and once settled, nothing is pending.
+/// The machine answers each list of commands, and in one way. No work is open between two commands, and once
+/// settled, nothing is pending.
 pub fn plays_law()
     ensures exist { PlaysExist }
     ensures one { PlaysAreOne }
@@ -55,7 +56,8 @@ pub fn row_counts_law()
     ensures { RowsAreCounted }
 {}
 
-/// In such a site, where each commit is one put, what a script is answered may be told without events of the machine.
+/// In such a site, where each commit is one put, what a script is answered may be told without events of the
+/// machine.
 pub fn sessions_law()
     ensures { SessionsAreTheMachines }
 {}
