@@ -25,7 +25,7 @@ use Rattle.dup_machine.specs.Run.{step}
 use Rattle.dup_machine.specs.Settle.{publishes, IsPublished, PublishEnds}
 use Rattle.dup_model.proofs.Absorb.{looks_after_bundle}
 use Rattle.dup_model.proofs.Reached.{tie_same}
-use Rattle.dup_model.proofs.Bundling.{all_changed}
+use Rattle.dup_model.proofs.ChangedPaths.{all_changed}
 use Rattle.dup_model.proofs.BundleFacts.{bundle_first, bundle_none}
 use Rattle.dup_model.proofs.Push.{edition_snoc}
 use Rattle.dup_model.proofs.Earlier.{obj_itself}

@@ -1,6 +1,7 @@
 ghost use Rattle.std.specs.Prelude.{◌≡◌, ◌≢◌, ◌⊎◌, IfErr, IfOk, IsErrOf, IsSome, IsSomeAnd, None, OnOk, Some, Err, string_bytes, true};
 ghost use Rattle.std.specs.Io.KnownBytes.{Appends, IsAtEnd};
 ghost use Rattle.dup_io.specs.Causes.{Rose};
+ghost use Rattle.dup_main.specs.Faults.{FaultHasCause};
 ghost use Rattle.dup_main.specs.Reach.{ReadsNoFurther};
 ghost use Rattle.dup_main.specs.Stops.{StopsAt, stop_status, stop_text, writes};
 ghost use Rattle.dup_main.specs.Tasks.{task_of};
@@ -87,10 +88,8 @@ fn perform<S: Source, K: Sink>(
         ReadsNoFurther (S.left input.old) (S.left input.new)) }
     ensures stopped { IfErr result (λ stop. StopsAt task stop (S.left input.old) (K.written out.old)
         (K.written out.new)) }
-    ensures read_fault { IsErrOf result Stop.ReadFault → Rose (S.faults input.old) (S.faults input.new) }
-    ensures no_read_fault { result ≢ Err Stop.ReadFault → S.faults input.new ≡ S.faults input.old }
-    ensures write_fault { IsErrOf result Stop.WriteFault → Rose (K.faults out.old) (K.faults out.new) }
-    ensures no_write_fault { result ≢ Err Stop.WriteFault → K.faults out.new ≡ K.faults out.old }
+    ensures reads { FaultHasCause result Stop.ReadFault (S.faults input.old) (S.faults input.new) }
+    ensures writes { FaultHasCause result Stop.WriteFault (K.faults out.old) (K.faults out.new) }
 {
     match task {
         Task::Play => play(alloc, input, out),

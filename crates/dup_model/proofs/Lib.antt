@@ -7,7 +7,7 @@ pub mod Closed
 pub mod Sound
 pub mod Absorb
 pub mod Reached
-pub mod Bundling
+pub mod ChangedPaths
 pub mod BundleFacts
 pub mod Finest
 pub mod Caching

@@ -37,7 +37,7 @@ use Rattle.dup_machine.specs.World.Ended.{Report}
 use Rattle.dup_machine.specs.World.Event.{Begin, Comes, Node, Publish, Request}
 use Rattle.dup_machine.specs.World.Told.{Begins, Finished, NodeMade, NodeTaken, NoNode, NothingChanged, Published}
 use Rattle.dup_transcript.specs.declared.command.Command.TheVariants as command
-use Rattle.dup_model.proofs.Bundling.{bundle_is_none}
+use Rattle.dup_model.proofs.BundleFacts.{bundle_is_none}
 use Rattle.dup_machine.proofs.Pending.{last_target}
 use Rattle.dup_machine.proofs.Publishing.{publish_ends}
 use Rattle.dup_transcript.proofs.Reports.{begins_nothing, none_reported, nothing_new, report_is, settle_counts, target_case, told_once}
