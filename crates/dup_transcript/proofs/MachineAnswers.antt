@@ -23,7 +23,8 @@ use Rattle.dup_transcript.specs.MachinePlays.Settles.{at_once, by_work}
 use Rattle.dup_model.specs.Needs.{changed}
 use Rattle.dup_machine.specs.Nodes.{node_made, requested, with_node}
 use Rattle.dup_model.specs.Pages.{Target, live}
-use Rattle.dup_machine.specs.Press.{commit_told, published_by, target_of, version_of}
+use Rattle.dup_machine.specs.Press.{published_by, target_of}
+use Rattle.dup_machine.specs.Presses.{commit_told, version_of}
 use Rattle.dup_machine.specs.Run.{run, step}
 use Rattle.dup_machine.specs.Status.{NothingPending}
 use Rattle.dup_machine.specs.Settle.{IsPublished, IsSettled, counts_of, publishes, settling}
