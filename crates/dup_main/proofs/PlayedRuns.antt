@@ -9,7 +9,7 @@ use Rattle.dup_main.specs.Transcript.{WritesRun, WritesTranscript, grammars}
 
 play_runs : (input old new : Option Word) (status : ℕ) → WritesTranscript Play input old new status → WritesRun input old new
 play_runs None old new status w = tt
-play_runs (Some input) old new status w = (w.0, (transcripts_are_runs grammars (reading 0 0 input) status w.0 w.1, w.2))
+play_runs (Some input) old new status w = (w.0, transcripts_are_runs grammars (reading 0 0 input) status w.0 w.1, w.2)
 
 pub written_runs : (task : Task) (input old new : Option Word) (status : ℕ) → task ≡ Play →
     WritesTranscript task input old new status → WritesRun input old new

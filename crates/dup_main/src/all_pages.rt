@@ -2,6 +2,7 @@
 ghost use Rattle.std.specs.Prelude.{◌≡◌, ◌≢◌, ◌⊎◌, IfErr, IfOk, IsErrOf, OnOk, Err};
 ghost use Rattle.std.specs.Io.KnownBytes.{Appends};
 ghost use Rattle.dup_io.specs.Causes.{Rose};
+ghost use Rattle.dup_main.specs.Faults.{FaultHasCause};
 ghost use Rattle.dup_model.specs.Jobs.{IsJob, JobsFit};
 ghost use Rattle.dup_transcript.specs.RenderedPages.{rendered_page, rendered_pages};
 
