@@ -2,8 +2,8 @@ use Rattle.dup_model.proofs.Tables.{rising_put}
 use Rattle.dup_records.proofs.content.Content.with_put.Goals as goal
 
 pub with_rows-requires-clause-rising : goal.with_rows-requires-clause-rising
-with_rows-requires-clause-rising c = rw c.in_ok-made.ensures (rising_put _ _ c.rows_at-entries.ensures.rising)
+with_rows-requires-clause-rising c = rw c.in_ok-made.ensures (rising_put _ _ c.rows-entries.ensures.rising)
 
 pub returns : goal.returns
 returns c =
-    rw (← c.fields_at-names.ensures, ← c.rows_at-entries.ensures.value, ← c.in_ok-texts.ensures, ← c.in_ok-set_fields.ensures, ← c.of.ensures, ← c.in_ok-made.ensures) c.with_rows.ensures
+    rw (← c.fields-names.ensures, ← c.rows-entries.ensures.value, ← c.in_ok-texts.ensures, ← c.in_ok-set_fields.ensures, ← c.of.ensures, ← c.in_ok-made.ensures) c.with_rows.ensures
