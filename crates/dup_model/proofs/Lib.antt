@@ -38,3 +38,4 @@ pub mod FoundWords
 pub mod Changes
 pub mod Rising
 pub mod SameWords
+pub mod Columns

@@ -34,3 +34,4 @@ pub mod Incremental
 pub mod JoinedLooks
 pub mod GoodSites
 pub mod ChangedItems
+pub mod Columns
