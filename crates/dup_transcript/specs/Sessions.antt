@@ -11,7 +11,7 @@ use Rattle.dup_model.specs.Content.{Content}
 use Rattle.dup_model.specs.Commits.{Commit, Refusal}
 use Rattle.dup_model.specs.Versions.{content, target_content}
 use Rattle.dup_model.specs.Looks.{look}
-use Rattle.dup_model.specs.Pages.{pages}
+use Rattle.dup_model.specs.Pages.{page_looks, pages}
 use Rattle.dup_model.specs.Needs.{same_look}
 use Rattle.dup_model.specs.Editions.{Page, Edition}
 use Rattle.dup_model.specs.Journal.{refused_behind, with_commit}
@@ -38,10 +38,6 @@ pub record Session : Type 0 where
 abbrev pub first_session : Session
 first_session = record { commits = []; target = None; number = 0; edition = fin.empty; nodes = [] }
 
--- the whole site at a content, in path order: each page's path and look
-abbrev pub whole_site : Content → List (Path × Look)
-whole_site c = map (λ p. (p.0, look c p.1)) (pages c)
-
 -- a page is as the edition has it
 abbrev pub shows : Option Page → Look → Bool
 shows None look = false
@@ -67,7 +63,7 @@ with_pages version site p = fold (with_page version) p site
 
 abbrev pub settled_edition : Parts → Session → Published
 settled_edition site s =
-    with_pages (length s.commits) (whole_site (content site s.commits)) (record {
+    with_pages (length s.commits) (page_looks (content site s.commits)) (record {
       number = s.number;
       edition = s.edition;
     })
