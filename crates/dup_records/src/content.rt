@@ -6,7 +6,8 @@ ghost use Rattle.dup_names.specs.Words.{place, same};
 ghost use Rattle.dup_model.specs.Names.{field_at, fields_at, kind_at, template_at};
 ghost use Rattle.dup_model.specs.Content.{start, table, text, texts_at, row, keys, group, value, IsOf};
 ghost use Rattle.dup_model.specs.Commits.{blank, put_row, with_fields, with_table};
-ghost use Rattle.dup_model.specs.Tables.{IsRising};
+ghost use Rattle.dup_model.specs.Tables.{IsRising, TablesRise};
+ghost use Rattle.dup_records.specs.Fits.{HaveTexts, RowsFit};
 
 use crate::agreeing::{are_group, are_keys, is_answer, is_text};
 use crate::keys::{keys_of, keys_where};
@@ -39,6 +40,7 @@ impl Model for Content {
     ghost use Rattle.dup_model.specs.Content.{Content as Contents};
     ghost use Rattle.dup_model.specs.Frame.{frame_of, bodies_of};
     ghost use Rattle.dup_model.specs.Tables.{IsRising};
+    ghost use Rattle.dup_records.specs.Fits.{TablesFit};
 
     ghost Value = { Contents };
 
@@ -46,7 +48,8 @@ impl Model for Content {
 
     ghost view = { λ c. record { frame = frame_of c.site.value; bodies = bodies_of c.site.value; tables = map (λ t. t.value) c.tables.items } };
 
-    ghost invariant = { λ c. (length c.tables.items ≡ length c.site.value.kinds) × AllByRecursion IsRising (map (λ t. t.value) c.tables.items) };
+    ghost invariant = { λ c. (length c.tables.items ≡ length c.site.value.kinds) × AllByRecursion IsRising (map (λ t. t.value) c.tables.items)
+        × TablesFit (frame_of c.site.value) (map (λ t. t.value) c.tables.items) };
 }
 
 // The number of a kind, or their number where it is absent.
@@ -179,6 +182,7 @@ impl Content {
     pub(crate) fn rows_at(&self, kind: usize) -> &[Entry]
         ensures value { result.now ≡ table self.now kind }
         ensures rising { IsRising result.now }
+        ensures fit { HaveTexts (length (fields_at self.now.frame kind)) result.now }
     {
         table_at(&self.tables, kind)
     }
@@ -191,6 +195,14 @@ impl Content {
         self.rows_at(usize::from(kind))
     }
 
+    /// What its rows keep: they stand in the order of their keys, and have a text for each field.
+    pub(crate) fn keeps_rows(&self)
+        ensures rising { TablesRise self.now }
+        ensures fit { RowsFit self.now }
+    {
+        let _tables = &self.tables;
+    }
+
     /// The same content with these rows of a kind.
     pub(crate) fn with_rows(
         &self,
@@ -200,6 +212,7 @@ impl Content {
     ) -> Result<Content, NoMemory>
         requires kind { kind < length self.now.frame.kinds }
         requires rising { IsRising rows.items }
+        requires fit { HaveTexts (length (fields_at self.now.frame kind)) rows.items }
         ensures { IfOk result (λ made. made ≡ with_table self.now kind rows.items) }
     {
         let mut tables = shared_tables(alloc, &self.tables)?;

@@ -4,6 +4,7 @@
 mod agreeing;
 mod applying;
 mod change;
+mod changing;
 mod commit;
 mod content;
 mod keys;
@@ -12,6 +13,7 @@ mod rows;
 
 pub use applying::apply;
 pub use change::Change;
+pub use changing::changed;
 pub use commit::{Commit, Limits};
 pub use content::Content;
 pub use refusal::CommitRefusal;
