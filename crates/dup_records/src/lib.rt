@@ -20,4 +20,6 @@ pub use refusal::CommitRefusal;
 pub use rows::Entry;
 
 #[cfg(test)]
+mod changing_tests;
+#[cfg(test)]
 mod tests;

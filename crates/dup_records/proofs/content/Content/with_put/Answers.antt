@@ -8,7 +8,7 @@ with_rows-requires-clause-rising c = rw c.in_ok-made.ensures (rising_put _ _ c.r
 
 pub with_rows-requires-clause-fit : goal.with_rows-requires-clause-fit
 with_rows-requires-clause-fit c =
-    rw (c.in_ok-made.ensures, c.of.ensures, c.in_ok-set_fields.ensures, c.in_ok-texts.ensures, c.fields_at-names.ensures) 
+    rw (c.in_ok-made.ensures, c.of.ensures, c.in_ok-set_fields.ensures, c.in_ok-texts.ensures, c.fields_at-names.ensures)
     (fit_with (fields_at c.args.self.now.frame c.args.kind) c.args.fields.now c.args.key.now c.rows_at-entries.result.now c.rows_at-entries.ensures.fit)
 
 pub returns : goal.returns
