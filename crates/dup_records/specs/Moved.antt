@@ -40,7 +40,8 @@ abbrev pub moved_field : Content → Content → ℕ → Word → ℕ → Item �
 moved_field a b kind key field it =
     not (same (text a kind key field) (text b kind key field))
     && (one (item.Field kind key field) it
-    || (group_named kind field (text a kind key field) it || group_named kind field (text b kind key field) it))
+    || (group_named kind field (text a kind key field) it
+    || group_named kind field (text b kind key field) it))
 
 -- of the first few fields
 abbrev pub moved_fields : Content → Content → ℕ → Word → ℕ → Item → Bool
@@ -53,7 +54,8 @@ is_row c kind key = is_some (row c kind key)
 -- a row that is there in one of the two alone, and the list of its kind
 abbrev pub moved_row : Content → Content → ℕ → Word → Item → Bool
 moved_row a b kind key it =
-    not (if is_row a kind key then is_row b kind key else not (is_row b kind key)) && (one (item.Row kind key) it || one (item.List kind) it)
+    not (if is_row a kind key then is_row b kind key else not (is_row b kind key))
+    && (one (item.Row kind key) it || one (item.List kind) it)
 
 -- by the row of a kind, and by the row that a change names
 abbrev pub moved_in : Content → Content → ℕ → Word → Item → Bool

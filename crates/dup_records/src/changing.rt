@@ -51,7 +51,8 @@ fn note_field(
     key: &Key,
     field: u16,
 ) -> Result<(), NoMemory>
-    ensures { OnOk result (Notes noted.old.keys noted.new.keys (moved_field old.now new.now kind key.now field)) }
+    ensures { OnOk result (
+        Notes noted.old.keys noted.new.keys (moved_field old.now new.now kind key.now field)) }
 {
     let before = old.text(kind, key, field);
     let after = new.text(kind, key, field);
@@ -72,7 +73,8 @@ fn note_fields(
     kind: u16,
     key: &Key,
 ) -> Result<(), NoMemory>
-    ensures { OnOk result (Notes noted.old.keys noted.new.keys (moved_fields old.now new.now kind key.now (length (fields_at old.now.frame kind)))) }
+    ensures { OnOk result (let count = length (fields_at old.now.frame kind) in
+        Notes noted.old.keys noted.new.keys (moved_fields old.now new.now kind key.now count)) }
 {
     for field in 0..field_count(old, kind) {
         note_field(noted, old, new, kind, key, field)?;
@@ -137,7 +139,8 @@ fn noted_by(
     new: &Content,
     commits: &[Arc<Commit, Global>],
 ) -> Result<Items, NoMemory>
-    ensures { IfOk result (λ noted. AreNoted noted.keys (moved_by old.now new.now (map (λ c. c.value) commits.now))) }
+    ensures { IfOk result (λ noted.
+        AreNoted noted.keys (moved_by old.now new.now (map (λ c. c.value) commits.now))) }
 {
     let mut noted = BTreeSet::new(alloc);
     for commit in commits {
