@@ -8,12 +8,9 @@ ghost use Rattle.std.specs.Str.Lines.{strip_carriage_return};
 ghost use Rattle.dup_io.specs.declared.lines.LineFault.TheVariants.{NoMemory, ReadFault};
 
 use crate::ends::{Failed, Source};
+use dup_names::{MAX_INPUT_BYTES, MAX_LINE_BYTES};
 use std::alloc::{AllocFailed, Global};
 use thiserror::Error;
-
-const MAX_LINE: usize = 262_144;
-
-const MAX_INPUT: u64 = 1_073_741_824;
 
 /// A line of a source, without what ended it.
 #[derive(Drop)]
@@ -171,10 +168,10 @@ impl<'s, S: Source> Lines<'s, S> {
                 let number = self.number;
                 return Ok(Some(Line { number, bytes }));
             };
-            if byte != 10 && bytes.len() == MAX_LINE {
+            if byte != 10 && bytes.len() == MAX_LINE_BYTES {
                 return Err(LineFault::LineTooLong(self.number + 1));
             }
-            if self.taken + bytes.len() as u64 == MAX_INPUT {
+            if self.taken + bytes.len() as u64 == MAX_INPUT_BYTES {
                 return Err(LineFault::InputTooLong);
             }
             if byte == 10 {

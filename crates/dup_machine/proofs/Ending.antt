@@ -20,6 +20,7 @@ use Rattle.dup_machine.specs.World.Begun.{Nothing}
 use Rattle.dup_machine.specs.World.Told.{Begins, Finished}
 use Rattle.dup_machine.specs.Works.{work_from}
 use Rattle.dup_machine.specs.World.Event.{Begin, Finish}
+use Rattle.dup_machine.proofs.WorldSteps.{begun_next}
 use Rattle.dup_machine.specs.Press.{at, target_of, opened, begun, finished}
 use Rattle.dup_machine.specs.Run.{step}
 use Rattle.dup_model.specs.Embeddings.{EmbedsEarlier}
@@ -83,6 +84,7 @@ module _ (site : Parts) (limits : Limits) (w : World) (earlier : EmbedsEarlier (
       nothing : step site limits w Begin ≡ told (Begins (Nothing (length w.commits))) w
       nothing =
           (λ i. begun site (idle i) (made i) w)
+          ∙ begun_next site (length w.commits) w
           ∙ ap (λ b. cond b (told (Begins (Nothing (length w.commits))) w) (opened site (work_from (at site w (length w.commits)) (length w.commits) (content site w.commits)) w)) ((Decides-eqb (length w.commits) (length w.commits)).1 refl)
 
       ends : step site limits (told (Begins (Nothing (length w.commits))) w) Finish ≡ told (Finished Ended.Idle) (told (Begins (Nothing (length w.commits))) w)

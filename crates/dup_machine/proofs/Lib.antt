@@ -1,3 +1,4 @@
+pub mod WorldSteps
 pub mod Levels
 pub mod PressSteps
 pub mod Machine

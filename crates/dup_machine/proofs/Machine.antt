@@ -29,7 +29,8 @@ use Rattle.dup_model.specs.Answers.{Reply, answer}
 use Rattle.dup_machine.specs.World.{World, Told, Event, answered}
 use Rattle.dup_machine.specs.World.Told.{NothingChanged, NodeMade, NodeTaken, NoNode}
 use Rattle.dup_machine.specs.World.Event.{Comes, Begin, Hand, Put, Join, Finish, Publish, Node, Deliver, Request, Evict}
-use Rattle.dup_machine.specs.Press.{version_of, published_by, published}
+use Rattle.dup_machine.specs.Press.{published_by, published}
+use Rattle.dup_machine.specs.Presses.{version_of}
 use Rattle.dup_machine.specs.Nodes.{with_node, node_made, delivered, requested, evicted}
 use Rattle.dup_machine.specs.Run.{step}
 use Rattle.dup_model.proofs.Lists.{after_front, length_snoc}

@@ -13,7 +13,7 @@ use Rattle.dup_model.specs.Bundles.{bundle}
 use Rattle.dup_machine.specs.World.{World}
 use Rattle.dup_machine.specs.Press.{target_of}
 use Rattle.dup_machine.specs.Status.{NothingPending, is_of, is_pending, PendingIsTold}
-use Rattle.dup_model.proofs.Bundling.{bundle_is_none}
+use Rattle.dup_model.proofs.BundleFacts.{bundle_is_none}
 
 or_false : (a b : Bool) → (a || b) ≡ false → (a ≡ false) × (b ≡ false)
 or_false true b h = absurd (true≢false h)

@@ -21,7 +21,9 @@ use Rattle.dup_machine.specs.World.Begun.{Same, Nothing, Opened}
 use Rattle.dup_model.specs.Found.{waiting}
 use Rattle.dup_model.specs.Expansions.{notes, stale}
 use Rattle.dup_machine.specs.Works.{unjoined, level, first_work, work_from, moved, next_of}
-use Rattle.dup_machine.specs.Press.{at, version_of, committed, opened, begun, handed_to, handed, kept, put_back, put_from, joined_by, joined, finished_by, finished}
+use Rattle.dup_machine.proofs.WorldSteps.{begun_next, begun_open, put_asked}
+use Rattle.dup_machine.specs.Press.{at, committed, opened, begun, handed_to, handed, kept, put_back, put_from, joined_by, joined, finished_by, finished}
+use Rattle.dup_machine.specs.Presses.{version_of}
 use Rattle.dup_model.proofs.Lists.{length_snoc, front_longer}
 use Rattle.dup_model.proofs.Histories.{fits_unless_refused, history_push}
 
@@ -67,20 +69,20 @@ module _ (site : Parts) where
   quiet_if false w x y p q = q
 
   quiet_opened : (work : Work) (w : World) → Quiet w (opened site work w)
-  quiet_opened work w = record { log = refl; nodes = refl; reply = Begins (Opened work.version (length (waiting (at site w work.version) work.done))); told_it = refl; other = refl }
+  quiet_opened work w = record { log = refl; nodes = refl; reply = Begins (Opened work.version (length (waiting (content site w.commits) work.done))); told_it = refl; other = refl }
 
   pub quiet_begun : (work : Option Work) (target : Option ℕ) (w : World) → Quiet w (begun site work target w)
   quiet_begun (Some work) target w =
-      quiet_if (work.version == length w.commits) w _ _
+      subst (Quiet w) (sym (begun_open site work target w)) (quiet_if (work.version == length w.commits) w _ _
       (record { log = refl; nodes = refl; reply = Begins (Same work.version); told_it = refl; other = refl })
-      (quiet_opened (moved (at site w work.version) (length w.commits) (content site w.commits) work) w)
+      (quiet_opened (moved (at site w work.version) (length w.commits) (content site w.commits) work) w))
   quiet_begun None None w = quiet_opened (first_work (length w.commits)) w
   quiet_begun None (Some a) w =
-      quiet_if (a == length w.commits) w _ _
+      subst (Quiet w) (sym (begun_next site a w)) (quiet_if (a == length w.commits) w _ _
       (record { log = refl; nodes = refl; reply = Begins (Nothing a); told_it = refl; other = refl })
-      (quiet_opened (work_from (at site w a) (length w.commits) (content site w.commits)) w)
+      (quiet_opened (work_from (at site w a) (length w.commits) (content site w.commits)) w))
 
-  quiet_handed_to : (slot : ℕ) (work : Work) (o : Option Obj) (w : World) → Quiet w (handed_to slot work o w)
+  quiet_handed_to : (slot : ℕ) (work : Work) (o : Option Obj) (w : World) → Quiet w (handed_to site slot work o w)
   quiet_handed_to slot work None w = record { log = refl; nodes = refl; reply = _; told_it = refl; other = refl }
   quiet_handed_to slot work (Some o) w = record { log = refl; nodes = refl; reply = _; told_it = refl; other = refl }
 
@@ -96,9 +98,9 @@ module _ (site : Parts) where
   pub quiet_put_back : (o : Obj) (ns : List (Item × Value)) (work : Option Work) (w : World) → Quiet w (put_back site o ns work w)
   quiet_put_back o ns None w = record { log = refl; nodes = refl; reply = _; told_it = refl; other = refl }
   quiet_put_back o ns (Some work) w =
-      quiet_if (is_in (waiting (at site w work.version) work.done) o) w _ _
+      subst (Quiet w) (sym (put_asked site o ns work w)) (quiet_if (is_in (waiting (at site w work.version) work.done) o) w _ _
       (quiet_kept (at site w work.version) o work (stale (at site w work.version) ns) w)
-      (record { log = refl; nodes = refl; reply = Unasked o; told_it = refl; other = refl })
+      (record { log = refl; nodes = refl; reply = Unasked o; told_it = refl; other = refl }))
 
   pub quiet_put_from : (slot : ℕ) (held : Option Slot) (w : World) → Quiet w (put_from site slot held w)
   quiet_put_from slot None w = record { log = refl; nodes = refl; reply = _; told_it = refl; other = refl }
@@ -107,7 +109,7 @@ module _ (site : Parts) where
       let q : Quiet emptied (put_back site held.obj (notes (at site w held.version) held.obj) w.work emptied) = quiet_put_back held.obj (notes (at site w held.version) held.obj) w.work emptied in
       record { log = q.log; nodes = q.nodes; reply = q.reply; told_it = q.told_it; other = q.other }
 
-  quiet_joined_by : (work : Work) (os us level : List Obj) (w : World) → Quiet w (joined_by work os us level w)
+  quiet_joined_by : (work : Work) (os us level : List Obj) (w : World) → Quiet w (joined_by site work os us level w)
   quiet_joined_by work (o ∷ os) us level w = record { log = refl; nodes = refl; reply = _; told_it = refl; other = refl }
   quiet_joined_by work [] [] level w = record { log = refl; nodes = refl; reply = _; told_it = refl; other = refl }
   quiet_joined_by work [] (u ∷ us) level w = record { log = refl; nodes = refl; reply = _; told_it = refl; other = refl }
@@ -162,19 +164,19 @@ module _ (site : Parts) where
 
   pub timely_begun : (work : Option Work) (target : Option ℕ) (w : World) → IsTimely site w → IsTimely site (begun site work target w)
   timely_begun (Some work) target w t =
-      timely_if (work.version == length w.commits) _ _
+      subst (IsTimely site) (sym (begun_open site work target w)) (timely_if (work.version == length w.commits) _ _
       (timely_work w _ refl refl refl t.work_within t)
-      (timely_opened (moved (at site w work.version) (length w.commits) (content site w.commits) work) w (t.target_within, omega arith) t)
+      (timely_opened (moved (at site w work.version) (length w.commits) (content site w.commits) work) w (t.target_within, omega arith) t))
   timely_begun None None w t = timely_opened (first_work (length w.commits)) w (t.target_within, omega arith) t
   timely_begun None (Some a) w t =
-      timely_if (a == length w.commits) _ _
+      subst (IsTimely site) (sym (begun_next site a w)) (timely_if (a == length w.commits) _ _
       (timely_work w _ refl refl refl t.work_within t)
-      (timely_opened (work_from (at site w a) (length w.commits) (content site w.commits)) w (t.target_within, omega arith) t)
+      (timely_opened (work_from (at site w a) (length w.commits) (content site w.commits)) w (t.target_within, omega arith) t))
 
   work_at : (work : Work) (w : World) → w.work ≡ Some work → IsTimely site w → (version_of w.target ≤ work.version) × (work.version ≤ length w.commits)
   work_at work w is t = subst (λ work. IsWorkWithin work (version_of w.target) (length w.commits)) is t.work_within
 
-  timely_handed_to : (slot : ℕ) (work : Work) (o : Option Obj) (w : World) → w.work ≡ Some work → IsTimely site w → IsTimely site (handed_to slot work o w)
+  timely_handed_to : (slot : ℕ) (work : Work) (o : Option Obj) (w : World) → w.work ≡ Some work → IsTimely site w → IsTimely site (handed_to site slot work o w)
   timely_handed_to slot work None w is t = timely_work w _ refl refl refl t.work_within t
   timely_handed_to slot work (Some o) w is t = timely_work w _ refl refl refl (work_at work w is t) t
 
@@ -190,9 +192,9 @@ module _ (site : Parts) where
   pub timely_put_back : (o : Obj) (ns : List (Item × Value)) (work : Option Work) (w : World) → w.work ≡ work → IsTimely site w → IsTimely site (put_back site o ns work w)
   timely_put_back o ns None w is t = timely_work w _ refl refl refl t.work_within t
   timely_put_back o ns (Some work) w is t =
-      timely_if (is_in (waiting (at site w work.version) work.done) o) _ _
+      subst (IsTimely site) (sym (put_asked site o ns work w)) (timely_if (is_in (waiting (at site w work.version) work.done) o) _ _
       (timely_kept (at site w work.version) o work (stale (at site w work.version) ns) w is t)
-      (timely_work w _ refl refl refl t.work_within t)
+      (timely_work w _ refl refl refl t.work_within t))
 
   pub timely_put_from : (slot : ℕ) (held : Option Slot) (w : World) → IsTimely site w → IsTimely site (put_from site slot held w)
   timely_put_from slot None w t = timely_work w _ refl refl refl t.work_within t
@@ -200,7 +202,7 @@ module _ (site : Parts) where
       let emptied : World = record w { slots = fin.remove w.slots slot } in
       timely_put_back held.obj (notes (at site w held.version) held.obj) w.work emptied refl (timely_work w emptied refl refl refl t.work_within t)
 
-  timely_joined_by : (work : Work) (os us level : List Obj) (w : World) → w.work ≡ Some work → IsTimely site w → IsTimely site (joined_by work os us level w)
+  timely_joined_by : (work : Work) (os us level : List Obj) (w : World) → w.work ≡ Some work → IsTimely site w → IsTimely site (joined_by site work os us level w)
   timely_joined_by work (o ∷ os) us level w is t = timely_work w _ refl refl refl t.work_within t
   timely_joined_by work [] [] level w is t = timely_work w _ refl refl refl t.work_within t
   timely_joined_by work [] (u ∷ us) level w is t = timely_work w _ refl refl refl (work_at work w is t) t

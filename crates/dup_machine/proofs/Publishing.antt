@@ -20,12 +20,13 @@ use Rattle.dup_model.specs.Editions.{Bundle, edition, history, looks, target_loo
 use Rattle.dup_model.specs.Bundles.{bundle, changed_paths}
 use Rattle.dup_machine.specs.World.{World}
 use Rattle.dup_machine.specs.World.Event.{Publish}
-use Rattle.dup_machine.specs.Press.{target_of, version_of, published_by}
+use Rattle.dup_machine.specs.Press.{target_of, published_by}
+use Rattle.dup_machine.specs.Presses.{version_of}
 use Rattle.dup_machine.specs.Run.{step}
 use Rattle.dup_machine.specs.Settle.{publishes, IsPublished, PublishEnds}
 use Rattle.dup_model.proofs.Absorb.{looks_after_bundle}
 use Rattle.dup_model.proofs.Reached.{tie_same}
-use Rattle.dup_model.proofs.Bundling.{all_changed}
+use Rattle.dup_model.proofs.ChangedPaths.{all_changed}
 use Rattle.dup_model.proofs.BundleFacts.{bundle_first, bundle_none}
 use Rattle.dup_model.proofs.Push.{edition_snoc}
 use Rattle.dup_model.proofs.Earlier.{obj_itself}

@@ -18,7 +18,7 @@ use Rattle.dup_model.specs.Editions.{Bundle, edition, history}
 use Rattle.dup_model.specs.Answers.{Reply}
 use Rattle.dup_model.specs.Answers.Reply.{Found, Absent, Ahead}
 use Rattle.dup_machine.specs.World.{World, Event, Told, first_world}
-use Rattle.dup_machine.specs.Press.{version_of}
+use Rattle.dup_machine.specs.Presses.{version_of}
 use Rattle.dup_machine.specs.Run.{step, run}
 use Rattle.dup_machine.specs.Headline.{EachEventIsAnswered, LogGrows, Replied, LogIsGood, RepliesAreTrue, AheadIsTrue, SettledIsWhole, Headline}
 use Rattle.dup_model.proofs.Lists.{get_snoc, get_last, get_back, length_snoc, take_all_snoc}

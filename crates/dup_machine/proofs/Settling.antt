@@ -31,6 +31,7 @@ use Rattle.dup_machine.specs.World.Ended.{Report}
 use Rattle.dup_model.specs.Found.{found, waiting}
 use Rattle.dup_model.specs.Expansions.{notes, stale}
 use Rattle.dup_machine.specs.Works.{unjoined, level, first_work, work_from, moved, next_of, more, with_done, with_joined}
+use Rattle.dup_machine.proofs.WorldSteps.{begun_next, begun_open, put_asked}
 use Rattle.dup_machine.specs.Press.{joined as join_step}
 use Rattle.dup_machine.specs.Press.{at, opened, begun, handed_to, handed, kept, put_from, joined_by, finished_by, finished}
 use Rattle.dup_machine.specs.Run.{step}
@@ -78,7 +79,7 @@ module _ (site : Parts) (limits : Limits) (w0 : World) where
       held = record { obj = o; version = work.version }
 
       abbrev in_hand : World
-      in_hand = handed_to 0 work (Some o) w
+      in_hand = handed_to site 0 work (Some o) w
 
       abbrev emptied : World
       emptied = record in_hand { slots = fin.remove in_hand.slots 0 }
@@ -89,7 +90,7 @@ module _ (site : Parts) (limits : Limits) (w0 : World) where
       hand_step : step site limits w (Hand 0) ≡ in_hand
       hand_step =
           (λ i. handed site 0 (s.has i) (s.slot i) w)
-          ∙ ap (λ x. handed_to 0 work x w) (ap (λ c. next_of work.last_handed (waiting c work.done)) at_last ∙ next)
+          ∙ ap (λ x. handed_to site 0 work x w) (ap (λ c. next_of work.last_handed (waiting c work.done)) at_last ∙ next)
 
       slot_held : fin.get in_hand.slots 0 ≡ Some held
       slot_held = fin.get-insert nat_cmp_total w.slots 0 held 0
@@ -97,6 +98,7 @@ module _ (site : Parts) (limits : Limits) (w0 : World) where
       put_step : step site limits in_hand (Put 0) ≡ brought
       put_step =
           ap (λ x. put_from site 0 x in_hand) slot_held
+          ∙ put_asked site o (notes (at site w work.version) o) taken emptied
           ∙ (λ i. cond (asked i) (kept (at site w work.version) o taken (stale_is i) emptied) (told (Unasked o) emptied))
         where
           asked : is_in (waiting (at site w work.version) work.done) o ≡ true
@@ -183,7 +185,7 @@ module _ (site : Parts) (limits : Limits) (w0 : World) where
   hand_nothing w work s calm =
       let first : step site limits w (Hand 0) ≡ told NoneWaits w =
       (λ i. handed site 0 (s.has i) (s.slot i) w)
-      ∙ ap (λ o. handed_to 0 work o w) (ap (λ c. next_of work.last_handed (waiting c work.done)) (at_last site limits w0 w work s) ∙ ap (next_of work.last_handed) calm ∙ none_next work.last_handed) in
+      ∙ ap (λ o. handed_to site 0 work o w) (ap (λ c. next_of work.last_handed (waiting c work.done)) (at_last site limits w0 w work s) ∙ ap (next_of work.last_handed) calm ∙ none_next work.last_handed) in
       let goes : step site limits (step site limits w (Hand 0)) (Put 0) ≡ told (SlotEmpty 0) (told NoneWaits w) =
       ap (λ v. step site limits v (Put 0)) first ∙ ap (λ o. put_from site 0 o (told NoneWaits w)) s.slot in
       subst (λ v. Stands w0 v work) (sym goes) (record { commits = s.commits; target = s.target; log = s.log; nodes = s.nodes; has = s.has; slot = s.slot; here = s.here })
@@ -320,10 +322,10 @@ module _ (site : Parts) (limits : Limits) (w0 : World) where
             (us : List Obj) → unjoined end work ≡ us → AllJoined (Steps site limits w0 w (joins (suc m))) work looked0 once0 (suc m) (length (unjoined end work))
         by_unjoined onward [] is =
             let there : at site w work.version ≡ end = at_last site limits w0 w work s in
-            let goes : step site limits w Join ≡ joined_by work [] [] (level end work) w =
-            (λ i. join_step site (s.has i) w) ∙ (λ i. joined_by work (waiting (there i) work.done) (unjoined (there i) work) (level (there i) work) w) ∙ (λ i. joined_by work (calm i) (is i) (level end work) w) in
-            let rest : AllJoined (Steps site limits w0 (joined_by work [] [] (level end work) w) (joins m)) work looked0 once0 m (length (unjoined end work)) =
-            onward (joined_by work [] [] (level end work) w) work (record { commits = s.commits; target = s.target; log = s.log; nodes = s.nodes; has = s.has; slot = s.slot; here = s.here }) calm are in
+            let goes : step site limits w Join ≡ joined_by site work [] [] (level end work) w =
+            (λ i. join_step site (s.has i) w) ∙ (λ i. joined_by site work (waiting (there i) work.done) (unjoined (there i) work) (level (there i) work) w) ∙ (λ i. joined_by site work (calm i) (is i) (level end work) w) in
+            let rest : AllJoined (Steps site limits w0 (joined_by site work [] [] (level end work) w) (joins m)) work looked0 once0 m (length (unjoined end work)) =
+            onward (joined_by site work [] [] (level end work) w) work (record { commits = s.commits; target = s.target; log = s.log; nodes = s.nodes; has = s.has; slot = s.slot; here = s.here }) calm are in
             record {
               then = rest.then;
               stands = subst (λ v. Stands w0 (Steps site limits w0 v (joins m)) rest.then) (sym goes) rest.stands;
@@ -337,10 +339,10 @@ module _ (site : Parts) (limits : Limits) (w0 : World) where
             let some : (v : Obj) × (is_in (level end work) v ≡ true) = some_level end work earlier calm (suc u.template) u (omega arith) (ap (λ l. is_in l u) is ∙ or_left (same_obj u u) (is_in us u) (obj_itself u)) in
             let least : 1 ≤ length (level end work) = has_one (level end work) some.0 some.1 in
             let there : at site w work.version ≡ end = at_last site limits w0 w work s in
-            let goes : step site limits w Join ≡ joined_by work [] (u ∷ us) (level end work) w =
-            (λ i. join_step site (s.has i) w) ∙ (λ i. joined_by work (waiting (there i) work.done) (unjoined (there i) work) (level (there i) work) w) ∙ (λ i. joined_by work (calm i) (is i) (level end work) w) in
-            let rest : AllJoined (Steps site limits w0 (joined_by work [] (u ∷ us) (level end work) w) (joins m)) (with_joined (level end work) work) looked0 once0 m (length (unjoined end (with_joined (level end work) work))) =
-            onward (joined_by work [] (u ∷ us) (level end work) w) (with_joined (level end work) work)
+            let goes : step site limits w Join ≡ joined_by site work [] (u ∷ us) (level end work) w =
+            (λ i. join_step site (s.has i) w) ∙ (λ i. joined_by site work (waiting (there i) work.done) (unjoined (there i) work) (level (there i) work) w) ∙ (λ i. joined_by site work (calm i) (is i) (level end work) w) in
+            let rest : AllJoined (Steps site limits w0 (joined_by site work [] (u ∷ us) (level end work) w) (joins m)) (with_joined (level end work) work) looked0 once0 m (length (unjoined end (with_joined (level end work) work))) =
+            onward (joined_by site work [] (u ∷ us) (level end work) w) (with_joined (level end work) work)
             (record { commits = s.commits; target = s.target; log = s.log; nodes = s.nodes; has = refl; slot = s.slot; here = s.here }) calm (joined_more looked0 once0 work are) in
             record {
               then = rest.then;
@@ -396,6 +398,7 @@ module _ (site : Parts) (limits : Limits) (w0 : World) where
         let work : Work = work_from (at site w0 a) (length w0.commits) end in
         let goes : step site limits w0 Begin ≡ opened site (work_from (at site w0 a) (length w0.commits) end) w0 =
         (λ i. begun site (idle i) (some i) w0)
+        ∙ begun_next site a w0
         ∙ ap (λ b. cond b (told (Begins (Nothing a)) w0) (opened site (work_from (at site w0 a) (length w0.commits) end) w0)) (ne_eqb a (length w0.commits) other) in (
           work_from (at site w0 a) (length w0.commits) end,
           record {
@@ -554,7 +557,7 @@ module _ (site : Parts) (limits : Limits) (w : World) (earlier : EmbedsEarlier (
 
   -- a work that is open already
   begin_open : (work : Work) → w.work ≡ Some work → Stands w (step site limits w Begin) (begun_work site w work)
-  begin_open work has = subst (λ v. Stands w v (begun_work site w work)) (sym (ap (λ o. begun site o w.target w) has)) (by_test (work.version == length w.commits) refl)
+  begin_open work has = subst (λ v. Stands w v (begun_work site w work)) (sym (ap (λ o. begun site o w.target w) has ∙ begun_open site work w.target w)) (by_test (work.version == length w.commits) refl)
     where
       by_test : (b : Bool) → (work.version == length w.commits) ≡ b → Stands w (cond b (told (Begins (Same work.version)) w) (opened site (moved (at site w work.version) (length w.commits) (content site w.commits) work) w)) (cond b work (moved (at site w work.version) (length w.commits) (content site w.commits) work))
       by_test true is = record { commits = refl; target = refl; log = refl; nodes = refl; has = has; slot = empty; here = (Decides-eqb work.version (length w.commits)).0 is }

@@ -50,16 +50,20 @@ AheadIsTrue site limits events =
 
 -- where nothing is pending, the newest edition is the whole site at the last commit
 abbrev pub SettledIsWhole : Parts → Limits → List Event → Type 0
-SettledIsWhole site limits events = NothingPending site (run site limits events) →
-    (p : Path) →
-    looks (edition (run site limits events).log) p ≡ target_looks
-    (target (content site (run site limits events).commits)) p
+SettledIsWhole site limits events =
+    let w = run site limits events in
+    NothingPending site w → (p : Path) →
+    looks (edition w.log) p ≡ target_looks (target (content site w.commits)) p
+
+-- the four clauses of the headline, at these events
+abbrev pub HeadlineAt : Parts → Limits → List Event → Type 0
+HeadlineAt site limits events =
+    LogIsGood site limits events × RepliesAreTrue site limits events × AheadIsTrue site limits events
+    × SettledIsWhole site limits events
 
 -- over every list of events
 abbrev pub Headline : Type 0
-Headline = (site : Parts) (limits : Limits) (events : List Event) →
-    LogIsGood site limits events × RepliesAreTrue site limits events × AheadIsTrue site limits events
-    × SettledIsWhole site limits events
+Headline = (site : Parts) (limits : Limits) (events : List Event) → HeadlineAt site limits events
 
 -- each event has one reply, the i-th that of the i-th
 abbrev pub EachEventIsAnswered : Type 0

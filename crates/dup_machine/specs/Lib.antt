@@ -1,5 +1,7 @@
 pub mod World
 pub mod Works
+pub mod Builds
+pub mod Presses
 pub mod Press
 pub mod Nodes
 pub mod Run

@@ -13,3 +13,4 @@ pub mod Puts
 pub mod WholeRuns
 pub mod WordLemmas
 pub mod Reached
+pub mod PlayedRuns

@@ -6,6 +6,7 @@ use Rattle.dup_names.specs.Words.{Word}
 use Rattle.dup_site.specs.Reads.{site_says}
 use Rattle.dup_site.specs.Spelling.{written}
 use Rattle.dup_transcript.specs.Transcript.{Grammars, IsTranscript}
+use Rattle.dup_transcript.specs.ScriptRuns.{HasRun}
 use Rattle.dup_transcript.specs.declared.task.Task.{Task}
 use Rattle.dup_main.specs.Commands.{message_command}
 
@@ -20,3 +21,8 @@ abbrev pub WritesTranscript : Task → Option Word → Option Word → Option Wo
 WritesTranscript task None old new status = Unit {0}
 WritesTranscript task (Some input) old new status = (out : Word)
     × IsTranscript grammars task (reading 0 0 input) status out × Appends old new out
+
+-- where source and sink tell their bytes, what the sink grew by is the run of a script, where one was played
+abbrev pub WritesRun : Option Word → Option Word → Option Word → Type 0
+WritesRun None old new = Unit {0}
+WritesRun (Some input) old new = (out : Word) × HasRun grammars (reading 0 0 input) out × Appends old new out

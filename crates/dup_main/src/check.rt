@@ -1,6 +1,7 @@
 ghost use Rattle.std.specs.Prelude.{◌≡◌, ◌≢◌, OnOk, IfErr, IsErrOf, Err};
 ghost use Rattle.dup_io.specs.Causes.{Rose};
 ghost use Rattle.dup_transcript.specs.declared.task.Task.TheVariants.{Check};
+ghost use Rattle.dup_main.specs.Faults.{FaultHasCause};
 ghost use Rattle.dup_main.specs.Reach.{ReadsNoFurther};
 ghost use Rattle.dup_main.specs.Stops.{StopsAt};
 ghost use Rattle.dup_main.specs.Transcript.{WritesTranscript};
@@ -24,10 +25,8 @@ pub(crate) fn check_site<S: Source, K: Sink>(
     ensures no_further { OnOk result (ReadsNoFurther (S.left input.old) (S.left input.new)) }
     ensures stopped { IfErr result (λ stop. StopsAt Check stop (S.left input.old) (K.written out.old)
         (K.written out.new)) }
-    ensures read_fault { IsErrOf result Stop.ReadFault → Rose (S.faults input.old) (S.faults input.new) }
-    ensures no_read_fault { result ≢ Err Stop.ReadFault → S.faults input.new ≡ S.faults input.old }
-    ensures write_fault { IsErrOf result Stop.WriteFault → Rose (K.faults out.old) (K.faults out.new) }
-    ensures no_write_fault { result ≢ Err Stop.WriteFault → K.faults out.new ≡ K.faults out.old }
+    ensures reads { FaultHasCause result Stop.ReadFault (S.faults input.old) (S.faults input.new) }
+    ensures writes { FaultHasCause result Stop.WriteFault (K.faults out.old) (K.faults out.new) }
 {
     let mut lines = Lines::new(input);
     let read = read_site_text(alloc, &mut lines)?;

@@ -1,10 +1,7 @@
 ghost use Rattle.std.specs.Prelude.{◌≡◌, IfOk, IsTrue, length};
-ghost use Rattle.std.specs.List.{list_all};
 ghost use Rattle.std.specs.Option.{option_copied};
 ghost use Rattle.dup_feed.specs.Feed.{feed_says};
-ghost use Rattle.dup_names.specs.LineWords.{is_space};
 ghost use Rattle.dup_template.specs.Good.{behind};
-ghost use Rattle.dup_names.specs.Words.{same};
 ghost use Rattle.dup_main.specs.Commands.{command_of, commit_command, message_command, seen};
 ghost use Rattle.dup_transcript.specs.Commands.{HasOneChange, by_message, by_start, by_words, four_words, get_command, if_more, is_one_put, is_put, message_of, mode_of, node_command, of_commit, one_word};
 ghost use Rattle.dup_transcript.specs.Numbers.{number_of};
@@ -13,16 +10,9 @@ use crate::number::read_number;
 use dup_feed::{FeedRefusal, read_commit};
 use dup_model::{Edit, Mode};
 use dup_transcript::Command;
-use dup_names::{NoMemory, Path};
+use dup_names::{NoMemory, Path, are_spaces, is_word, trimmed, words_of};
 use dup_records::{Change, Commit};
-use dup_site::{trimmed, words_of};
 use std::alloc::Global;
-
-fn is_word(word: &[u8], wanted: &[u8]) -> bool
-    ensures { result ≡ same word.now wanted.now }
-{
-    word == wanted
-}
 
 fn read_mode(word: &[u8]) -> Option<Mode>
     ensures { result ≡ mode_of word.now }
@@ -134,18 +124,6 @@ fn commit_command(alloc: Global, message: &[u8]) -> Result<Command<Commit>, NoMe
         Err(FeedRefusal::NoMemory) => Err(NoMemory),
         _ => Ok(Command::NotBuilt),
     }
-}
-
-fn is_space(byte: u8) -> bool
-    ensures { result ≡ is_space byte }
-{
-    byte == b' '
-}
-
-fn are_spaces(bytes: &[u8]) -> bool
-    ensures { result ≡ list_all is_space bytes.now }
-{
-    bytes.iter().all(|byte| is_space(*byte))
 }
 
 fn message_of(text: &[u8]) -> Option<&[u8]>

@@ -1,12 +1,12 @@
 ghost use Rattle.std.specs.Prelude.{◌≡◌, ◌≢◌, ◌⊎◌, IfErr, IfOk, IsErrOf, IsSome, IsSomeAnd, None, OnOk, Some, Err, string_bytes, true};
 ghost use Rattle.std.specs.Io.KnownBytes.{Appends, IsAtEnd};
 ghost use Rattle.dup_io.specs.Causes.{Rose};
+ghost use Rattle.dup_main.specs.Faults.{FaultHasCause};
 ghost use Rattle.dup_main.specs.Reach.{ReadsNoFurther};
 ghost use Rattle.dup_main.specs.Stops.{StopsAt, stop_status, stop_text, writes};
 ghost use Rattle.dup_main.specs.Tasks.{task_of};
-ghost use Rattle.dup_main.specs.Transcript.{WritesTranscript, usage};
+ghost use Rattle.dup_main.specs.Transcript.{WritesRun, WritesTranscript, usage};
 ghost use Rattle.dup_machine.specs.Headline.{Headline};
-ghost use Rattle.dup_transcript.specs.MachinePlays.{CommandsLeaveReady, SettlesLeaveNothing, StartsReady};
 ghost use Rattle.dup_transcript.specs.Transcript.{too_long_line};
 
 use crate::bad_site::bad_site_text;
@@ -17,7 +17,7 @@ use crate::stop::Stop;
 use crate::task::task_of;
 use dup_io::{Sink, Source, put_all};
 use dup_machine::headline;
-use dup_transcript::{Task, plays_law};
+use dup_transcript::Task;
 use std::alloc::{AllocError, Global};
 use std::marker::Sync;
 use std::thread::Threads;
@@ -87,10 +87,8 @@ fn perform<S: Source, K: Sink>(
         ReadsNoFurther (S.left input.old) (S.left input.new)) }
     ensures stopped { IfErr result (λ stop. StopsAt task stop (S.left input.old) (K.written out.old)
         (K.written out.new)) }
-    ensures read_fault { IsErrOf result Stop.ReadFault → Rose (S.faults input.old) (S.faults input.new) }
-    ensures no_read_fault { result ≢ Err Stop.ReadFault → S.faults input.new ≡ S.faults input.old }
-    ensures write_fault { IsErrOf result Stop.WriteFault → Rose (K.faults out.old) (K.faults out.new) }
-    ensures no_write_fault { result ≢ Err Stop.WriteFault → K.faults out.new ≡ K.faults out.old }
+    ensures reads { FaultHasCause result Stop.ReadFault (S.faults input.old) (S.faults input.new) }
+    ensures writes { FaultHasCause result Stop.WriteFault (K.faults out.old) (K.faults out.new) }
 {
     match task {
         Task::Play => play(alloc, input, out),
@@ -127,15 +125,18 @@ pub fn desk_main<R: Threads + Sync, S: Source, K: Sink>(
         × Appends (K.written out.old) (K.written out.new) usage }
     // What is written is the task's transcript of the bytes read, and the status is its own.
     ensures whole { result ≡ 0 →
-        IsSomeAnd (task_of words.now) (λ task. WritesTranscript task (S.left input.old) (K.written out.old) (K.written out.new) 0) }
+        IsSomeAnd (task_of words.now)
+        (λ task. WritesTranscript task (S.left input.old) (K.written out.old) (K.written out.new) 0) }
     ensures at_end { result ≡ 0 → (task_of words.now ≡ Some Task.Play)
         ⊎ (task_of words.now ≡ Some Task.Render) → IsAtEnd (S.left input.new) }
     ensures no_further { result ≡ 0 → task_of words.now ≡ Some Task.Check →
         ReadsNoFurther (S.left input.old) (S.left input.new) }
     ensures bad_site { result ≡ 5 →
-        IsSomeAnd (task_of words.now) (λ task. WritesTranscript task (S.left input.old) (K.written out.old) (K.written out.new) 5) }
+        IsSomeAnd (task_of words.now)
+        (λ task. WritesTranscript task (S.left input.old) (K.written out.old) (K.written out.new) 5) }
     ensures too_long { result ≡ 7 →
-        IsSomeAnd (task_of words.now) (λ task. WritesTranscript task (S.left input.old) (K.written out.old) (K.written out.new) 7) }
+        IsSomeAnd (task_of words.now)
+        (λ task. WritesTranscript task (S.left input.old) (K.written out.old) (K.written out.new) 7) }
     // A fault is answered only where it happened, and none is passed over.
     ensures read_fault { result ≡ 3 → IsSome (task_of words.now)
         × Rose (S.faults input.old) (S.faults input.new) }
@@ -143,17 +144,15 @@ pub fn desk_main<R: Threads + Sync, S: Source, K: Sink>(
     ensures no_read_fault { result ≢ 3 → result ≢ 4 → S.faults input.new ≡ S.faults input.old }
     ensures no_write_fault { result ≢ 4 → K.faults out.new ≡ K.faults out.old }
     ensures memory { result ≡ 6 → IsSome (task_of words.now) }
-    // The headline: over every list of events of the machine, whose replies a transcript of `play` tells.
+    // The headline: what `play` writes for a script is what the machine replies to some events. Of their run its
+    // four clauses hold, and behind each settle nothing is pending. They hold of every list of events, too.
+    ensures run { (result ≡ 0) ⊎ (result ≡ 7) → task_of words.now ≡ Some Task.Play →
+        WritesRun (S.left input.old) (K.written out.old) (K.written out.new) }
     ensures headline { Headline }
-    // Between two commands of a script no work is open, and a settle leaves nothing pending.
-    ensures starts { StartsReady }
-    ensures ready { CommandsLeaveReady }
-    ensures settled { SettlesLeaveNothing }
     ensures others { (result ≡ 0) ⊎ (result ≡ 2) ⊎ (result ≡ 3) ⊎ (result ≡ 4) ⊎ (result ≡ 5) ⊎ (result ≡ 6)
         ⊎ (result ≡ 7) }
 {
     headline();
-    plays_law();
     let Some(task) = task_of(words) else {
         return end(out, 2, USAGE);
     };

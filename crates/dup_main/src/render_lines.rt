@@ -7,6 +7,7 @@ ghost use Rattle.dup_template.specs.Good.{IsGood};
 ghost use Rattle.dup_template.specs.declared.site.Parts.{Parts as Sites};
 ghost use Rattle.dup_model.specs.Content.{IsOf, start};
 ghost use Rattle.dup_transcript.specs.declared.command.Command.TheVariants as command;
+ghost use Rattle.dup_main.specs.Faults.{FaultHasCause};
 ghost use Rattle.dup_main.specs.Taken.{Takes};
 ghost use Rattle.dup_main.specs.Commands.{message_command};
 ghost use Rattle.dup_main.specs.Stops.{StopsInScript, WritesScript};
@@ -82,12 +83,8 @@ pub(crate) fn render_lines<'s, S: Source, K: Sink>(
     ensures stopped { IfErr result (λ stop. StopsInScript stop
         (RendersLines message_command site (number_of lines.old)) (to_read S.left lines.old)
         (K.written out.old) (K.written out.new)) }
-    ensures read_fault { IsErrOf result Stop.ReadFault →
-        Rose (S.faults (source_of lines.old)) (S.faults (source_of lines.new)) }
-    ensures no_read_fault { result ≢ Err Stop.ReadFault →
-        S.faults (source_of lines.new) ≡ S.faults (source_of lines.old) }
-    ensures write_fault { IsErrOf result Stop.WriteFault → Rose (K.faults out.old) (K.faults out.new) }
-    ensures no_write_fault { result ≢ Err Stop.WriteFault → K.faults out.new ≡ K.faults out.old }
+    ensures reads { FaultHasCause result Stop.ReadFault (S.faults (source_of lines.old)) (S.faults (source_of lines.new)) }
+    ensures writes { FaultHasCause result Stop.WriteFault (K.faults out.old) (K.faults out.new) }
 {
     let mut content = first_content(alloc, site)?;
     'lines: loop {

@@ -3,6 +3,7 @@ ghost use Rattle.std.specs.Io.KnownBytes.{IsAtEnd};
 ghost use Rattle.dup_io.specs.Causes.{Rose};
 ghost use Rattle.dup_io.specs.Lines.{to_read, source_of, reference_of, number_of, fault_of};
 ghost use Rattle.dup_transcript.specs.FirstForm.{is_first_form};
+ghost use Rattle.dup_main.specs.Faults.{FaultHasCause};
 ghost use Rattle.dup_main.specs.Commands.{message_command};
 ghost use Rattle.dup_main.specs.Stops.{StopsInScript, WritesScript};
 ghost use Rattle.dup_transcript.specs.Sessions.{Writes, first_session};
@@ -31,12 +32,8 @@ pub(crate) fn play_script<'s, S: Source, K: Sink>(
     ensures stopped { IfErr result (λ stop. StopsInScript stop
         (Writes message_command site first_session (number_of lines.old)) (to_read S.left lines.old)
         (K.written out.old) (K.written out.new)) }
-    ensures read_fault { IsErrOf result Stop.ReadFault →
-        Rose (S.faults (source_of lines.old)) (S.faults (source_of lines.new)) }
-    ensures no_read_fault { result ≢ Err Stop.ReadFault →
-        S.faults (source_of lines.new) ≡ S.faults (source_of lines.old) }
-    ensures write_fault { IsErrOf result Stop.WriteFault → Rose (K.faults out.old) (K.faults out.new) }
-    ensures no_write_fault { result ≢ Err Stop.WriteFault → K.faults out.new ≡ K.faults out.old }
+    ensures reads { FaultHasCause result Stop.ReadFault (S.faults (source_of lines.old)) (S.faults (source_of lines.new)) }
+    ensures writes { FaultHasCause result Stop.WriteFault (K.faults out.old) (K.faults out.new) }
 {
     let mut session = Session::new(alloc, site)?;
     'lines: loop {

@@ -5,6 +5,7 @@ ghost use Rattle.std.specs.Io.KnownBytes.{IsAtEnd};
 ghost use Rattle.dup_io.specs.Causes.{Rose};
 ghost use Rattle.dup_io.specs.Lines.{to_read, source_of, reference_of, number_of, fault_of};
 ghost use Rattle.dup_names.specs.Lines.{line as line_text};
+ghost use Rattle.dup_main.specs.Faults.{FaultHasCause};
 ghost use Rattle.dup_main.specs.Stops.{CountsSite, ReadsSite, StopsInSite};
 ghost use Rattle.dup_transcript.specs.Inputs.{is_end};
 
@@ -49,10 +50,7 @@ pub(crate) fn read_site_text<'s, S: Source>(
     ensures at_end { IfOk result (λ read. OnFalse read.has_script (IsAtEnd (S.left (source_of lines.new)))) }
     ensures no_stop { OnOk result (fault_of lines.new ≡ None) }
     ensures stopped { IfErr result (λ stop. StopsInSite stop (to_read S.left lines.old)) }
-    ensures read_fault { IsErrOf result Stop.ReadFault →
-        Rose (S.faults (source_of lines.old)) (S.faults (source_of lines.new)) }
-    ensures no_fault { result ≢ Err Stop.ReadFault →
-        S.faults (source_of lines.new) ≡ S.faults (source_of lines.old) }
+    ensures reads { FaultHasCause result Stop.ReadFault (S.faults (source_of lines.old)) (S.faults (source_of lines.new)) }
 {
     let mut text = Vec::new(alloc);
     'lines: loop {

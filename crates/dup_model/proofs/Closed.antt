@@ -3,8 +3,6 @@ use Rattle.std.proofs.Common.{◌≡◌, false}
 use Rattle.std.specs.Prelude.{IsTrue, ◌↔◌}
 use Rattle.dup_names.specs.Words.{Path}
 use Rattle.dup_model.specs.Needs.{Looks, Paths, needs, changed, IsClosed, NeededAreChanged}
-use Rattle.dup_model.specs.Reaches.{Reaches, IsLeast, IsBundle}
-use Rattle.dup_model.specs.Reaches.Reaches.{itself, further}
 use Rattle.dup_model.specs.Finest.{IsFinest, IsLeastOf, IsFinestBundle}
 use Rattle.std.specs.Ordering.{is_lt}
 use Rattle.dup_names.specs.Order.{text_cmp}
@@ -15,9 +13,6 @@ IsClosedBy e t s = (p q : Path) → IsTrue (s p) → IsTrue (needs e t p q) → 
 pub data ReachesBy (e t : Looks) (p : Path) : Path → Type 0 where
   itself-by : ReachesBy e t p p
   further-by : {q : Path} → ReachesBy e t p q → (r : Path) → IsTrue (needs e t q r) → IsTrue (changed e t r) → ReachesBy e t p r
-
-abbrev pub IsBundleBy : Looks → Looks → Paths → Type 0
-IsBundleBy e t s = (p : Path) × IsLeast e t p × ((q : Path) → IsTrue (s q) ↔ ReachesBy e t p q)
 
 pub record IsFinestBy (e t : Looks) (s : Paths) : Type 0 where
   pub some : (p : Path) × IsTrue (s p)
@@ -35,21 +30,6 @@ module _ (e t : Looks) where
   module _ (needed_changed : NeededAreChanged e t) where
     pub closed_of : (s : Paths) → ((p : Path) → IsTrue (s p) → IsTrue (changed e t p)) → IsClosedBy e t s → IsClosed e t s
     closed_of s only closed p q inside needed = closed p q inside needed (needed_changed p q (only p inside) needed)
-
-    reached_changed : (p : Path) → IsTrue (changed e t p) → {q : Path} → Reaches e t p q → IsTrue (changed e t q)
-    reached_changed p start itself = start
-    reached_changed p start (further {q} h r needed) = needed_changed q r (reached_changed p start h) needed
-
-    pub reaches_by : (p : Path) → IsTrue (changed e t p) → {q : Path} → Reaches e t p q → ReachesBy e t p q
-    reaches_by p start itself = itself-by
-    reaches_by p start (further {q} h r needed) = further-by (reaches_by p start h) r needed (needed_changed q r (reached_changed p start h) needed)
-
-    reaches_of : (p : Path) {q : Path} → ReachesBy e t p q → Reaches e t p q
-    reaches_of p itself-by = itself
-    reaches_of p (further-by h r needed changes) = further (reaches_of p h) r needed
-
-    pub bundle_of_by : (s : Paths) → IsBundleBy e t s → IsBundle e t s
-    bundle_of_by s (p, least, exactly) = (p, least, λ q. (λ h. reaches_of p ((exactly q).0 h), λ h. (exactly q).1 (reaches_by p least.0 h)))
 
     pub finest_of : (s : Paths) → IsFinestBy e t s → IsFinest e t s
     finest_of s is = record {

@@ -10,7 +10,7 @@ use Rattle.std.specs.FinMap as fin
 use Rattle.std.specs.Bool.{IsTrue}
 use Rattle.dup_model.proofs.Editions.{closed_after}
 use Rattle.dup_model.proofs.Reached.{tie_same, tie_itself, has_filter, closed_reached, reached_itself, through, Reaches-closed, Reaches-from_reached, or_right}
-use Rattle.dup_model.proofs.Bundling.{only_changed, all_changed, first_least, from_T}
+use Rattle.dup_model.proofs.ChangedPaths.{only_changed, all_changed, first_least, from_T}
 use Rattle.dup_names.specs.Words.{Path}
 use Rattle.dup_model.specs.Needs.{Looks, Paths, needs, changed}
 use Rattle.dup_names.specs.Order.{text_cmp}
@@ -18,8 +18,7 @@ use Rattle.dup_model.specs.Editions.{has, Edition, IsConsistent, absorb, bundle_
 use Rattle.dup_model.specs.Pages.{Target, target}
 use Rattle.dup_template.specs.declared.site.Parts.{Parts}
 use Rattle.dup_model.specs.Commits.{Commit}
-use Rattle.dup_model.specs.Bundles.{reached, paths_of, changed_paths}
-use Rattle.dup_model.specs.Finest.{is_knot, finest}
+use Rattle.dup_model.specs.Bundles.{reached, is_knot, paths_of, changed_paths, bundle}
 use Rattle.dup_model.specs.Versions.{content}
 
 -- tests over lists
@@ -229,10 +228,10 @@ module _ (e : Edition) (t : Target) where
       subst (λ paths. IsFinestBundleBy (looks e) (target_looks t) (has paths)) (same_Some _ paths answer)
       (finest_bundle (looks e) (target_looks t) ps (only_changed e t) (all_changed e t) p p_is.0 p_is.1 (first_found knot p head.0 head.1))
 
-  pub finest_is : (paths : List Path) → finest e t ≡ Some paths → IsFinestBundleBy (looks e) (target_looks t) (has paths)
+  pub finest_is : (paths : List Path) → bundle e t ≡ Some paths → IsFinestBundleBy (looks e) (target_looks t) (has paths)
   finest_is paths answer = found_at _ refl paths answer
 
-  pub finest_none : finest e t ≡ None → (q : Path) → changed (looks e) (target_looks t) q ≡ false
+  pub finest_none : bundle e t ≡ None → (q : Path) → changed (looks e) (target_looks t) q ≡ false
   finest_none answer q = elim (cases_Bool (changed (looks e) (target_looks t) q)) [
     | inl changes ↦ absurd (true≢false (sym (all_changed e t q changes) ∙ none_left (looks e) (target_looks t) (changed_paths e t) (only_changed e t) (all_changed e t) (none_found _ _ answer) q))
     | inr same ↦ same
@@ -242,13 +241,13 @@ module _ (e : Edition) (t : Target) where
       none_found f None is = refl
       none_found f (Some x) is = absurd (none-some (f x) (sym is))
 
--- what is published by the new rule is closed too
+-- a bundle is closed
 pub closed_finest : (e t : Looks) (s : Paths) → IsFinestBundleBy e t s → IsClosedBy e t s
 closed_finest e t s (p, is, least, first) = is.closed
 
 -- a part of a finest bundle that gives a consistent edition is the whole of it
 pub no_part : (site : Parts) (before commits : List Commit) (e : Edition) (paths part : List Path) →
-    IsConsistent site before e → finest e (target (content site (before ++ commits))) ≡ Some paths →
+    IsConsistent site before e → bundle e (target (content site (before ++ commits))) ≡ Some paths →
     ((p : Path) × IsTrue (has part p)) → ((p : Path) → IsTrue (has part p) → IsTrue (has paths p)) →
     IsConsistent site (before ++ commits) (absorb e (bundle_of (target (content site (before ++ commits))) (length (before ++ commits)) commits part)) →
     (p : Path) → IsTrue (has paths p) → IsTrue (has part p)

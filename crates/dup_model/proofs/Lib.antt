@@ -7,7 +7,7 @@ pub mod Closed
 pub mod Sound
 pub mod Absorb
 pub mod Reached
-pub mod Bundling
+pub mod ChangedPaths
 pub mod BundleFacts
 pub mod Finest
 pub mod Caching
@@ -38,3 +38,4 @@ pub mod FoundWords
 pub mod Changes
 pub mod Rising
 pub mod SameWords
+pub mod Columns

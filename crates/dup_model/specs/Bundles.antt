@@ -1,6 +1,6 @@
 -- Which paths are published together.
-use Rattle.std.specs.Prelude.{zero, Bool, ◌&&◌, ◌||◌, List, [], ◌∷◌, ◌++◌, Option, Some, None, bytes_eq, map}
-use Rattle.std.specs.List.{filter}
+use Rattle.std.specs.Prelude.{zero, Bool, not, ◌&&◌, ◌||◌, List, [], ◌∷◌, ◌++◌, Option, Some, None, bytes_eq, map}
+use Rattle.std.specs.List.{filter, find, list_all}
 use Rattle.std.specs.Option.{option_map}
 use Rattle.std.specs.FinMap as fin
 use Rattle.dup_names.specs.Order.{text_cmp}
@@ -22,14 +22,18 @@ abbrev pub reached : (Path → Path → Bool) → List Path → Path → Path �
 reached need [] p q = bytes_eq p q || need p q
 reached need (r ∷ rs) p q = reached need rs p q || reached need rs p r && reached need rs r q
 
--- the path of these from which a bundle is reached: the least
-abbrev pub start_of : (Path → Path → Bool) → List Path → Option Path
-start_of need [] = None
-start_of need (p ∷ ps) = Some p
+-- all that p reaches reaches it back
+abbrev pub is_knot : (Path → Path → Bool) → List Path → Path → Bool
+is_knot need ps p = list_all (λ q. not (reached need ps p q) || reached need ps q p) ps
 
+-- the path of these from which a bundle is reached: the first that all it reaches reach back
+abbrev pub start_of : (Path → Path → Bool) → List Path → Option Path
+start_of need ps = find (is_knot need ps) ps
+
+-- all of these that the start reaches
 abbrev pub bundle_from : (Path → Path → Bool) → List Path → Option (List Path)
 bundle_from need ps = option_map (λ p. filter (reached need ps p) ps) (start_of need ps)
 
--- the paths that are published next
+-- the paths that are published next: the finest closed set of changed paths whose least path is least
 abbrev pub bundle : Edition → Target → Option (List Path)
 bundle e t = bundle_from (needs (looks e) (target_looks t)) (changed_paths e t)

@@ -1,4 +1,4 @@
--- The finest bundles: what the rule of least paths becomes.
+-- The finest closed sets of changed paths, and which of them is the bundle.
 use Rattle.std.specs.Prelude.{◌≡◌, Bool, false, not, ◌||◌, List, Option, IsTrue}
 use Rattle.std.specs.List.{list_all, filter, find}
 use Rattle.std.specs.Option.{option_map}
@@ -18,6 +18,7 @@ pub record IsFinest (e t : Looks) (s : Paths) : Type 0 where
   pub finest : (r : Paths) → ((p : Path) × IsTrue (r p)) → ((p : Path) → IsTrue (r p) → IsTrue (s p)) →
       IsClosed e t r → (p : Path) → IsTrue (s p) → IsTrue (r p)
 
+-- p is in the set, and no path of the set comes before it
 abbrev pub IsLeastOf : Paths → Path → Type 0
 IsLeastOf s p = IsTrue (s p) × ((q : Path) → IsTrue (s q) → is_lt (text_cmp q p) ≡ false)
 
@@ -25,17 +26,3 @@ IsLeastOf s p = IsTrue (s p) × ((q : Path) → IsTrue (s q) → is_lt (text_cmp
 abbrev pub IsFinestBundle : Looks → Looks → Paths → Type 0
 IsFinestBundle e t s = (p : Path) × IsFinest e t s × IsLeastOf s p
     × ((r : Paths) (q : Path) → IsFinest e t r → IsLeastOf r q → is_lt (text_cmp q p) ≡ false)
-
--- all that p reaches reaches it back
-abbrev pub is_knot : (Path → Path → Bool) → List Path → Path → Bool
-is_knot need ps p = list_all (λ q. not (reached need ps p q) || reached need ps q p) ps
-
--- the start of the finest bundle, in place of `start_of`
-abbrev pub finest_start : (Path → Path → Bool) → List Path → Option Path
-finest_start need ps = find (is_knot need ps) ps
-
-abbrev pub finest_from : (Path → Path → Bool) → List Path → Option (List Path)
-finest_from need ps = option_map (λ p. filter (reached need ps p) ps) (finest_start need ps)
-
-abbrev pub finest : Edition → Target → Option (List Path)
-finest e t = finest_from (needs (looks e) (target_looks t)) (changed_paths e t)

@@ -19,7 +19,6 @@ pub mod Expansions
 pub mod Needs
 pub mod Editions
 pub mod Bundles
-pub mod Reaches
 pub mod Finest
 pub mod Publishing
 pub mod Logs
@@ -35,3 +34,4 @@ pub mod Incremental
 pub mod JoinedLooks
 pub mod GoodSites
 pub mod ChangedItems
+pub mod Columns

@@ -9,8 +9,7 @@ use Rattle.dup_model.specs.Pages.{Target, target}
 use Rattle.dup_model.specs.Needs.{Looks, Paths, IsSound, IsClosed, NeededAreChanged, changed, mixed}
 use Rattle.dup_model.specs.Editions.{Edition, IsConsistent, looks, target_looks, absorb, bundle_of, has}
 use Rattle.dup_model.specs.Bundles.{bundle}
-use Rattle.dup_model.specs.Reaches.{IsBundle}
-use Rattle.dup_model.specs.Finest.{finest, IsFinestBundle}
+use Rattle.dup_model.specs.Finest.{IsFinestBundle}
 
 -- in each target links lead to pages, and no object is shown in two ways
 abbrev pub TargetsAreSound : Type 0
@@ -35,32 +34,22 @@ ConsistentWhereClosed = (site : Parts) (before commits : List Commit) (e : Editi
     (IsConsistent site (before ++ commits) (absorb e (bundle_of t (length (before ++ commits)) commits paths))
     ↔ IsClosed (looks e) (target_looks t) (has paths))
 
--- what `bundle` answers is the least changed path and all that it reaches by needs
-abbrev pub BundleReaches : Type 0
-BundleReaches = (e : Edition) (t : Target) (paths : List Path) →
+-- what `bundle` answers is the finest closed set whose least path is least
+abbrev pub BundleIsFinest : Type 0
+BundleIsFinest = (e : Edition) (t : Target) (paths : List Path) →
     NeededAreChanged (looks e) (target_looks t) → bundle e t ≡ Some paths →
-    IsBundle (looks e) (target_looks t) (has paths)
+    IsFinestBundle (looks e) (target_looks t) (has paths)
 
 -- there is no bundle exactly where nothing is changed
 abbrev pub NoBundle : Type 0
 NoBundle = (e : Edition) (t : Target) → (bundle e t ≡ None)
     ↔ ((p : Path) → changed (looks e) (target_looks t) p ≡ false)
 
--- what `finest` answers is the finest closed set whose least path is least
-abbrev pub FinestIsFinest : Type 0
-FinestIsFinest = (e : Edition) (t : Target) (paths : List Path) →
-    NeededAreChanged (looks e) (target_looks t) → finest e t ≡ Some paths →
-    IsFinestBundle (looks e) (target_looks t) (has paths)
-
-abbrev pub NoFinest : Type 0
-NoFinest = (e : Edition) (t : Target) → finest e t ≡ None → (p : Path) →
-    changed (looks e) (target_looks t) p ≡ false
-
--- no nonempty proper part of a finest bundle would have given a consistent edition
+-- no nonempty proper part of a bundle would have given a consistent edition
 abbrev pub NoPartServes : Type 0
 NoPartServes = (site : Parts) (before commits : List Commit) (e : Edition) (paths part : List Path) →
     let t = target (content site (before ++ commits)) in
-    IsConsistent site before e → finest e t ≡ Some paths →
+    IsConsistent site before e → bundle e t ≡ Some paths →
     ((p : Path) × IsTrue (has part p)) → ((p : Path) → IsTrue (has part p) → IsTrue (has paths p)) →
     IsConsistent site (before ++ commits) (absorb e (bundle_of t (length (before ++ commits)) commits part)) →
     (p : Path) → IsTrue (has paths p) → IsTrue (has part p)

@@ -16,8 +16,8 @@ pub use content_laws::{commits_law, versions_law};
 pub use edit::Edit;
 pub use mark::Mark;
 pub use mode::Mode;
-pub use publishing_laws::{bundle_law, closed_law, finest_law, targets_law};
+pub use publishing_laws::{bundle_law, closed_law, targets_law};
 pub use rendering_laws::{
-    changes_law, expansions_law, good_sites_law, incremental_law, jobs_law, shows_law, uses_law,
+    changes_law, columns_law, expansions_law, good_sites_law, incremental_law, jobs_law, shows_law, uses_law,
 };
 pub use serving_laws::serving_law;

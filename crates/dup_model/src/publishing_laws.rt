@@ -1,4 +1,4 @@
-ghost use Rattle.dup_model.specs.Publishing.{TargetsAreSound, NeededChange, SoundWhereClosed, ConsistentWhereClosed, BundleReaches, NoBundle, FinestIsFinest, NoFinest, NoPartServes};
+ghost use Rattle.dup_model.specs.Publishing.{TargetsAreSound, NeededChange, SoundWhereClosed, ConsistentWhereClosed, BundleIsFinest, NoBundle, NoPartServes};
 
 /// Each target is sound, and so what a path needs is changed.
 pub fn targets_law()
@@ -12,15 +12,9 @@ pub fn closed_law()
     ensures editions { ConsistentWhereClosed }
 {}
 
-/// What `bundle` answers.
+/// What `bundle` answers: a finest closed set, and no part of it would have served.
 pub fn bundle_law()
-    ensures some { BundleReaches }
+    ensures some { BundleIsFinest }
     ensures none { NoBundle }
-{}
-
-/// What the rule of finest bundles answers.
-pub fn finest_law()
-    ensures some { FinestIsFinest }
-    ensures none { NoFinest }
     ensures parts { NoPartServes }
 {}

@@ -1,4 +1,5 @@
 ghost use Rattle.dup_model.specs.Shows.{EachIsShown};
+ghost use Rattle.dup_model.specs.Columns.{EachReads, EachEmbeds, EachGoes};
 ghost use Rattle.dup_model.specs.Uses.{ShowIsOfMarks, UsesAreAll, LooksShow};
 ghost use Rattle.dup_model.specs.JoinedLooks.{LooksAreJoined, AffectedUpwards};
 ghost use Rattle.dup_model.specs.Incremental.{UntouchedIsSame, UnaffectedLooksSame};
@@ -18,6 +19,13 @@ pub fn good_sites_law()
 pub fn shows_law()
     ensures each { EachIsShown }
     ensures marks { ShowIsOfMarks }
+{}
+
+/// What each kind of statement reads, embeds and links to.
+pub fn columns_law()
+    ensures reads { EachReads }
+    ensures embeds { EachEmbeds }
+    ensures goes { EachGoes }
 {}
 
 /// What an object uses, and how its look is put together.

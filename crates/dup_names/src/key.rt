@@ -3,6 +3,7 @@ ghost use Rattle.std.specs.Prelude.{◌≡◌, ◌↔◌, IsTrue, IsSome, IfSome
 ghost use Rattle.std.specs.List.{list_all};
 ghost use Rattle.dup_names.specs.Grammar.{is_key_byte as key_byte_grammar, is_key as key_grammar};
 
+use crate::limits::MAX_KEY_BYTES;
 use crate::name::is_name_byte;
 use crate::short::Short;
 use dup_lists::Listed;
@@ -24,13 +25,13 @@ fn are_key_bytes(bytes: &[u8]) -> bool
 fn is_key(bytes: &[u8]) -> bool
     ensures { result ≡ key_grammar bytes.now }
 {
-    1 <= bytes.len() && are_key_bytes(bytes) && bytes.len() <= 48
+    1 <= bytes.len() && are_key_bytes(bytes) && bytes.len() <= MAX_KEY_BYTES
 }
 
 /// 1 to 48 bytes of a-z, 0-9, _ and -. Keys have the order of their bytes.
 #[derive(Clone, Copy, Debug, PartialEq, Eq, PartialOrd, Ord)]
 pub struct Key {
-    text: Short<48>,
+    text: Short<MAX_KEY_BYTES>,
 }
 
 impl Model for Key {

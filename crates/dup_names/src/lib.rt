@@ -1,10 +1,14 @@
-//! Names, keys, paths and texts; the objects that are shown and the items that are read.
+//! Names, keys, paths and texts; the objects that are shown and the items that are read; the words
+//! of a line, want of memory, and the limits of all.
 #![tactic(auto)]
 
 mod count;
 mod key;
 mod laws;
+mod limits;
+mod line_words;
 mod name;
+mod no_memory;
 mod object;
 mod path;
 mod shared;
@@ -13,10 +17,17 @@ mod value;
 
 pub use count::{Meter, Pass};
 pub use key::{Key, KeyList};
-pub use name::Name;
+pub use limits::{
+    MAX_CHANGES, MAX_FIELDS, MAX_INPUT_BYTES, MAX_KEY_BYTES, MAX_KINDS, MAX_LINE_BYTES,
+    MAX_NAME_BYTES, MAX_NESTING, MAX_PAGE_RULES, MAX_PATH_BYTES, MAX_PREFIX_BYTES, MAX_STATEMENTS,
+    MAX_TEMPLATES, MAX_TEXT_BYTES,
+};
+pub use line_words::{are_spaces, is_word, trimmed, words_of};
+pub use name::{Name, place_of};
+pub use no_memory::NoMemory;
 pub use object::{Item, Obj};
 pub use path::Path;
-pub use shared::{Bytes, NoMemory, Text};
+pub use shared::{Bytes, Text};
 pub use value::{Look, Piece, Skeleton, Value};
 
 #[cfg(test)]

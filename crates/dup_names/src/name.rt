@@ -1,8 +1,10 @@
 // Names of kinds, fields and templates.
-ghost use Rattle.std.specs.Prelude.{◌≡◌, ◌↔◌, IsTrue, IsSome, IfSome};
+ghost use Rattle.std.specs.Prelude.{◌≡◌, ◌↔◌, ◌≤◌, IsTrue, IsSome, IfSome, length};
 ghost use Rattle.std.specs.List.{list_all};
 ghost use Rattle.dup_names.specs.Grammar.{is_name as name_grammar, is_name_byte as name_byte_grammar};
+ghost use Rattle.dup_names.specs.Words.{place};
 
+use crate::limits::MAX_NAME_BYTES;
 use crate::short::Short;
 use std::fmt::{self, Display, Formatter, Write};
 use std::marker::Model;
@@ -22,13 +24,13 @@ fn are_name_bytes(bytes: &[u8]) -> bool
 fn is_name(bytes: &[u8]) -> bool
     ensures { result ≡ name_grammar bytes.now }
 {
-    matches!(bytes, [b'a'..=b'z', ..]) && are_name_bytes(bytes) && bytes.len() <= 32
+    matches!(bytes, [b'a'..=b'z', ..]) && are_name_bytes(bytes) && bytes.len() <= MAX_NAME_BYTES
 }
 
 /// 1 to 32 bytes, the first of a-z, the others of a-z, 0-9 and _. Names have the order of their bytes.
 #[derive(Clone, Copy, Debug, PartialEq, Eq, PartialOrd, Ord)]
 pub struct Name {
-    text: Short<32>,
+    text: Short<MAX_NAME_BYTES>,
 }
 
 impl Model for Name {
@@ -71,4 +73,17 @@ impl Name {
     {
         self.text.as_slice()
     }
+}
+
+/// The place of a name among names, from 0, or their number where it is absent.
+pub fn place_of(names: &[Name], name: &Name) -> usize
+    ensures value { result ≡ place name.now names.now }
+    ensures within { result ≤ length names.now }
+{
+    for (index, other) in names.iter().enumerate() {
+        if other == name {
+            return index;
+        }
+    }
+    names.len()
 }

@@ -1,8 +1,10 @@
 // Paths of pages.
 ghost use Rattle.std.specs.Prelude.{◌≡◌, ◌↔◌, IsTrue, IsSome, IfSome};
-ghost use Rattle.dup_names.specs.Grammar.{is_path_byte as path_byte_grammar, are_segments as segments_grammar, is_path as path_grammar};
+ghost use Rattle.dup_names.specs.Grammar.{is_path_byte as path_byte_grammar, are_segments as segments_grammar};
+ghost use Rattle.dup_names.specs.Grammar.{is_path as path_grammar};
 
 use crate::key::is_key_byte;
+use crate::limits::MAX_PATH_BYTES;
 use crate::short::Short;
 use std::fmt::{self, Display, Formatter, Write};
 use std::marker::Model;
@@ -28,7 +30,7 @@ fn is_path(bytes: &[u8]) -> bool
 {
     match bytes {
         [b'/'] => true,
-        [b'/', rest @ ..] => bytes.len() <= 200 && are_segments(true, rest),
+        [b'/', rest @ ..] => bytes.len() <= MAX_PATH_BYTES && are_segments(true, rest),
         _ => false,
     }
 }
@@ -37,7 +39,7 @@ fn is_path(bytes: &[u8]) -> bool
 /// Paths have the order of their bytes.
 #[derive(Clone, Copy, Debug, PartialEq, Eq, PartialOrd, Ord)]
 pub struct Path {
-    text: Short<200>,
+    text: Short<MAX_PATH_BYTES>,
 }
 
 impl Model for Path {

@@ -1,29 +1,15 @@
-ghost use Rattle.std.specs.Prelude.{◌≡◌, ◌↔◌, ◌≤◌, IsTrue, IfOk, OnOk, IsSome, IfSome, length, IsUtf8, nat_eq};
+// Bytes and texts, which are shared.
+ghost use Rattle.std.specs.Prelude.{◌≡◌, ◌↔◌, ◌≤◌, IfOk, IsSome, IfSome, length, IsUtf8, nat_eq};
+ghost use Rattle.dup_names.specs.declared.limits.TheConstants.{MAX_TEXT_BYTES};
 ghost use Rattle.std.specs.Cmp.{partial_equiv_from_equiv};
 ghost use Rattle.std.specs.Cmp.Lexicographic.{pointwise, nat_list_eq_equiv};
 
-use std::alloc::{AllocError, AllocFailed, Global};
+use crate::limits::MAX_TEXT_BYTES;
+use crate::no_memory::NoMemory;
+use std::alloc::Global;
 use std::marker::Model;
 use std::str;
 use std::sync::Arc;
-use thiserror::Error;
-
-/// Want of memory.
-#[derive(Clone, Copy, Debug, PartialEq, Eq, Error)]
-#[error("out of memory")]
-pub struct NoMemory;
-
-impl From<AllocError> for NoMemory {
-    fn from(_error: AllocError) -> NoMemory {
-        NoMemory
-    }
-}
-
-impl<T: Drop> From<AllocFailed<T>> for NoMemory {
-    fn from(_error: AllocFailed<T>) -> NoMemory {
-        NoMemory
-    }
-}
 
 /// A shared string of bytes, of any length.
 #[derive(Drop)]
@@ -86,12 +72,13 @@ pub struct Text {
 
 impl Model for Text {
     ghost use Rattle.std.specs.Prelude.{List, ℕ, IsUtf8, ◌≤◌, length};
+    ghost use Rattle.dup_names.specs.declared.limits.TheConstants.{MAX_TEXT_BYTES};
 
     ghost Value = { List ℕ };
 
     ghost view = { λ t. t.bytes };
 
-    ghost invariant = { λ t. (length t.bytes ≤ 4096) × ∥ IsUtf8 t.bytes ∥₁ };
+    ghost invariant = { λ t. (length t.bytes ≤ MAX_TEXT_BYTES) × ∥ IsUtf8 t.bytes ∥₁ };
 
     ghost inverse = { λ xs. record { bytes = xs } };
 }
@@ -99,10 +86,11 @@ impl Model for Text {
 impl Text {
     /// The text of these bytes, which are copied, or `None` where they are none.
     pub fn read(alloc: Global, bytes: &[u8]) -> Result<Option<Text>, NoMemory>
-        ensures some { IfOk result (λ read. IsSome read ↔ ((length bytes.now ≤ 4096) × IsUtf8 bytes.now)) }
+        ensures some { IfOk result (λ read.
+            IsSome read ↔ ((length bytes.now ≤ MAX_TEXT_BYTES) × IsUtf8 bytes.now)) }
         ensures value { IfOk result (λ read. IfSome read (λ text. text ≡ bytes.now)) }
     {
-        if bytes.len() > 4096 || str::from_utf8(bytes).is_err() {
+        if bytes.len() > MAX_TEXT_BYTES || str::from_utf8(bytes).is_err() {
             return Ok(None);
         }
         let bytes = Bytes::of(alloc, Vec::from_slice(alloc, bytes)?)?;
@@ -112,7 +100,7 @@ impl Text {
     /// The bytes.
     pub fn bytes(&self) -> &[u8]
         ensures value { result.now ≡ self.now }
-        ensures fits { length self.now ≤ 4096 }
+        ensures fits { length self.now ≤ MAX_TEXT_BYTES }
         ensures utf8 { IsUtf8 self.now }
     {
         self.bytes.bytes()

@@ -7,9 +7,8 @@ ghost use Rattle.dup_records.specs.Refusals.{Names, due};
 use crate::commit::Commit;
 use crate::content::Content;
 use crate::refusal::CommitRefusal;
-use crate::rows::place_of;
 use dup_model::Edit;
-use dup_names::{Key, Name, Text};
+use dup_names::{Key, Name, Text, place_of};
 use std::alloc::Global;
 
 fn are_known(names: &[Name], fields: &[(Name, Text)]) -> bool
@@ -33,14 +32,14 @@ fn put(
     ensures fits { OnOk result (due content.now rows number (Put name.now key.now fields.now) ≡ None) }
     ensures refused { IfErr result (λ e. Names e (due content.now rows number (Put name.now key.now fields.now))) }
 {
-    let kind = content.kind_at(name);
+    let kind = content.kind_number(name);
     if kind >= content.kind_count() {
         return Err(CommitRefusal::UnknownKind(number));
     }
-    if !are_known(content.fields_at(kind), fields) {
+    if !are_known(content.fields(kind), fields) {
         return Err(CommitRefusal::UnknownField(number));
     }
-    if !content.is_row(kind, key) && content.rows_at(kind).len() >= rows as usize {
+    if !content.has_row(kind, key) && content.rows(kind).len() >= rows as usize {
         return Err(CommitRefusal::KindFull(number));
     }
     Ok(content.with_put(alloc, kind, key, fields)?)
@@ -58,11 +57,11 @@ fn remove(
     ensures fits { OnOk result (due content.now rows number (Remove name.now key.now) ≡ None) }
     ensures refused { IfErr result (λ e. Names e (due content.now rows number (Remove name.now key.now))) }
 {
-    let kind = content.kind_at(name);
+    let kind = content.kind_number(name);
     if kind >= content.kind_count() {
         return Err(CommitRefusal::UnknownKind(number));
     }
-    if !content.is_row(kind, key) {
+    if !content.has_row(kind, key) {
         return Err(CommitRefusal::NoRow(number));
     }
     Ok(content.without(alloc, kind, key)?)

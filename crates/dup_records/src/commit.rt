@@ -4,7 +4,7 @@ ghost use Rattle.dup_model.specs.Commits.{HasCommitLength};
 
 use crate::change::Change;
 use dup_lists::Listed;
-use dup_names::NoMemory;
+use dup_names::{MAX_CHANGES, NoMemory};
 use std::alloc::Global;
 use std::marker::Model;
 
@@ -32,7 +32,7 @@ impl Commit {
         ensures some { IsSome result ↔ HasCommitLength changes.items }
         ensures value { IfSome result (λ commit. commit ≡ changes.items) }
     {
-        if changes.is_empty() || changes.len() > 256 {
+        if changes.is_empty() || changes.len() > MAX_CHANGES {
             return None;
         }
         let changes = Listed::of(changes);

@@ -1,10 +1,10 @@
 // Contents: a site and the rows of its kinds.
-ghost use Rattle.std.specs.Prelude.{◌≡◌, ◌<◌, ◌≤◌, ◌↔◌, [], IsTrue, IfOk, length, map, not, is_some, replicate, Some};
+ghost use Rattle.std.specs.Prelude.{◌≡◌, ◌<◌, ◌↔◌, [], IsTrue, IfOk, length, map, not, is_some, replicate};
 ghost use Rattle.std.specs.List.{filter, slice_get};
-ghost use Rattle.std.specs.Option.{unwrap_or};
-ghost use Rattle.dup_names.specs.Words.{place, same};
-ghost use Rattle.dup_model.specs.Names.{field_at, fields_at, kind_at, template_at};
-ghost use Rattle.dup_model.specs.Content.{start, table, text, texts_at, row, keys, group, value, IsOf};
+ghost use Rattle.std.specs.Option.{option_map, unwrap_or};
+ghost use Rattle.dup_names.specs.Words.{same};
+ghost use Rattle.dup_model.specs.Names.{field_at, fields_at, kind_at, kind_named, kind_of, object_of, template_at};
+ghost use Rattle.dup_model.specs.Content.{IsOf, body_at, group, keys, row, start, table, text, value};
 ghost use Rattle.dup_model.specs.Commits.{blank, put_row, with_fields, with_table};
 ghost use Rattle.dup_model.specs.Tables.{IsRising, TablesRise};
 ghost use Rattle.dup_records.specs.Fits.{HaveTexts, RowsFit};
@@ -12,12 +12,11 @@ ghost use Rattle.dup_records.specs.Fits.{HaveTexts, RowsFit};
 use crate::agreeing::{are_group, are_keys, is_answer, is_text};
 use crate::keys::{keys_of, keys_where};
 use crate::rows::{
-    Entry, find_row, find_text, place_of, rows_with, rows_without, set_fields, text_or_empty,
-    texts_or_blank,
+    Entry, find_row, find_text, rows_with, rows_without, set_fields, text_or_empty, texts_or_blank,
 };
 use dup_lists::Listed;
-use dup_names::{Item, Key, KeyList, Name, NoMemory, Text, Value};
-use dup_template::{KindPart, Site};
+use dup_names::{Item, Key, KeyList, Name, NoMemory, Obj, Text, Value};
+use dup_template::{Site, Statement};
 use std::alloc::Global;
 use std::marker::Model;
 use std::sync::Arc;
@@ -46,23 +45,16 @@ impl Model for Content {
 
     ghost coded = { Prim.hlevel (codes, statement.the_row.coded) };
 
-    ghost view = { λ c. record { frame = frame_of c.site.value; bodies = bodies_of c.site.value; tables = map (λ t. t.value) c.tables.items } };
+    ghost view = { λ c. record {
+      frame = frame_of c.site.value;
+      bodies = bodies_of c.site.value;
+      tables = map (λ t. t.value) c.tables.items;
+    } };
 
-    ghost invariant = { λ c. (length c.tables.items ≡ length c.site.value.kinds) × AllByRecursion IsRising (map (λ t. t.value) c.tables.items)
+    ghost invariant = { λ c.
+        (length c.tables.items ≡ length c.site.value.kinds)
+        × AllByRecursion IsRising (map (λ t. t.value) c.tables.items)
         × TablesFit (frame_of c.site.value) (map (λ t. t.value) c.tables.items) };
-}
-
-// The number of a kind, or their number where it is absent.
-fn kind_place(kinds: &[KindPart], name: &Name) -> usize
-    ensures value { result ≡ place name.now (map (λ k. k.name) kinds.now) }
-    ensures within { result ≤ length kinds.now }
-{
-    for (index, kind) in kinds.iter().enumerate() {
-        if kind.name == *name {
-            return index;
-        }
-    }
-    kinds.len()
 }
 
 fn table_at(tables: &[Arc<Table, Global>], kind: usize) -> &[Entry]
@@ -123,26 +115,12 @@ impl Content {
         &self.site
     }
 
-    fn kinds(&self) -> &[KindPart]
-        ensures value { result.now ≡ self.now.frame.kinds }
-        ensures few { length result.now ≤ 64 }
-    {
-        self.site.kinds()
-    }
-
-    /// The number of a kind, or the number of kinds where there is none of that name.
-    pub(crate) fn kind_at(&self, name: &Name) -> usize
-        ensures { result ≡ kind_at self.now.frame name.now }
-    {
-        kind_place(self.kinds(), name)
-    }
-
     /// The number of the kind with this name, or the number of kinds where there is none. It walks
     /// at most 64 kinds.
     pub fn kind_number(&self, name: &Name) -> u16
         ensures { result ≡ kind_at self.now.frame name.now }
     {
-        kind_place(self.kinds(), name) as u16
+        self.site.kind_number(name)
     }
 
     /// The number of a kind's field with this name, or the number of its fields where there is
@@ -150,7 +128,7 @@ impl Content {
     pub fn field_number(&self, kind: u16, name: &Name) -> u16
         ensures { result ≡ field_at self.now.frame kind name.now }
     {
-        place_of(self.site.fields(kind), name) as u16
+        self.site.field_number(kind, name)
     }
 
     /// The number of the template with this name, or the number of templates where there is none. It
@@ -162,37 +140,81 @@ impl Content {
     }
 
     /// The number of kinds.
-    pub(crate) fn kind_count(&self) -> usize
+    pub(crate) fn kind_count(&self) -> u16
         ensures { result ≡ length self.now.frame.kinds }
     {
-        self.kinds().len()
+        self.site.kinds().len() as u16
     }
 
     /// The names of a kind's fields, none of a kind that isn't there.
-    pub(crate) fn fields_at(&self, kind: usize) -> &[Name]
+    pub(crate) fn fields(&self, kind: u16) -> &[Name]
         ensures { result.now ≡ fields_at self.now.frame kind }
     {
-        match self.kinds().get(kind) {
-            None => &[],
-            Some(part) => part.fields.items(),
+        self.site.fields(kind)
+    }
+
+    /// The kind of a template, if it has one.
+    pub fn kind_of(&self, template: u16) -> Option<Name>
+        ensures { result ≡ kind_of self.now.frame template }
+    {
+        match self.site().templates().get(usize::from(template)) {
+            None => None,
+            Some(part) => part.kind,
         }
     }
 
-    /// The rows of a kind, none of a kind that isn't there.
-    pub(crate) fn rows_at(&self, kind: usize) -> &[Entry]
-        ensures value { result.now ≡ table self.now kind }
-        ensures rising { IsRising result.now }
-        ensures fit { HaveTexts (length (fields_at self.now.frame kind)) result.now }
+    /// The number of a template's kind, if it has one.
+    pub fn kind_number_of(&self, template: u16) -> Option<u16>
+        ensures { result ≡ option_map (kind_at self.now.frame) (kind_of self.now.frame template) }
     {
-        table_at(&self.tables, kind)
+        match self.kind_of(template) {
+            None => None,
+            Some(name) => Some(self.kind_number(&name)),
+        }
+    }
+
+    /// The number of the kind of the template with this name, if it has one.
+    pub fn kind_named(&self, template: &Name) -> Option<u16>
+        ensures { result ≡ kind_named self.now.frame template.now }
+    {
+        self.kind_number_of(self.template_number(template))
+    }
+
+    /// A template's statements, none where there is no such template.
+    pub fn body_of(&self, template: u16) -> &[Statement]
+        ensures { result.now ≡ body_at self.now template }
+    {
+        match self.site().templates().get(usize::from(template)) {
+            None => &[],
+            Some(part) => part.body.items(),
+        }
+    }
+
+    /// The object of the template with this name: by itself where it has no kind, and else with this
+    /// key.
+    pub fn object_of(&self, template: &Name, key: &Option<Key>) -> Obj
+        ensures { result ≡ object_of self.now.frame (template_at self.now.frame template.now) key.now }
+    {
+        let template = self.template_number(template);
+        match self.kind_of(template) {
+            None => Obj {
+                template,
+                key: None,
+            },
+            Some(_) => Obj {
+                template,
+                key: *key,
+            },
+        }
     }
 
     /// The rows of a kind in the order of their keys, none of a kind that isn't there.
     pub fn rows(&self, kind: u16) -> &[Entry]
         ensures value { result.now ≡ table self.now kind }
         ensures rising { IsRising result.now }
+        ensures fit { HaveTexts (length (fields_at self.now.frame kind)) result.now }
     {
-        self.rows_at(usize::from(kind))
+        table_at(&self.tables, usize::from(kind))
     }
 
     /// What its rows keep: they stand in the order of their keys, and have a text for each field.
@@ -207,7 +229,7 @@ impl Content {
     pub(crate) fn with_rows(
         &self,
         alloc: Global,
-        kind: usize,
+        kind: u16,
         rows: Vec<Entry>,
     ) -> Result<Content, NoMemory>
         requires kind { kind < length self.now.frame.kinds }
@@ -216,7 +238,7 @@ impl Content {
         ensures { IfOk result (λ made. made ≡ with_table self.now kind rows.items) }
     {
         let mut tables = shared_tables(alloc, &self.tables)?;
-        tables[kind] = Arc::new(alloc, Listed::of(rows))?;
+        tables[usize::from(kind)] = Arc::new(alloc, Listed::of(rows))?;
         let site = Arc::try_clone(&self.site)?;
         Ok(Content { site, tables })
     }
@@ -225,16 +247,19 @@ impl Content {
     pub(crate) fn with_put(
         &self,
         alloc: Global,
-        kind: usize,
+        kind: u16,
         key: &Key,
         fields: &[(Name, Text)],
     ) -> Result<Content, NoMemory>
         requires { kind < length self.now.frame.kinds }
-        ensures { IfOk result (λ made. let names = fields_at self.now.frame kind in made
-            ≡ with_table self.now kind (put_row (key.now, with_fields names fields.now (unwrap_or (row self.now kind key.now) (blank names))) (table self.now kind))) }
+        ensures { IfOk result (λ made.
+            let names = fields_at self.now.frame kind in
+            let texts = unwrap_or (row self.now kind key.now) (blank names) in
+            made ≡ with_table self.now kind
+            (put_row (key.now, with_fields names fields.now texts) (table self.now kind))) }
     {
-        let names = self.fields_at(kind);
-        let entries = self.rows_at(kind);
+        let names = self.fields(kind);
+        let entries = self.rows(kind);
         let mut texts = texts_or_blank(alloc, entries, key, names)?;
         set_fields(names, fields, &mut texts)?;
         let made = rows_with(alloc, entries, (*key, Listed::of(texts)))?;
@@ -242,27 +267,20 @@ impl Content {
     }
 
     /// The same content without the row of a kind that is under a key.
-    pub(crate) fn without(&self, alloc: Global, kind: usize, key: &Key) -> Result<Content, NoMemory>
+    pub(crate) fn without(&self, alloc: Global, kind: u16, key: &Key) -> Result<Content, NoMemory>
         requires { kind < length self.now.frame.kinds }
         ensures { IfOk result (λ made. made
             ≡ with_table self.now kind (filter (λ e. not (same e.0 key.now)) (table self.now kind))) }
     {
-        let made = rows_without(alloc, self.rows_at(kind), key)?;
+        let made = rows_without(alloc, self.rows(kind), key)?;
         self.with_rows(alloc, kind, made)
-    }
-
-    /// Whether a kind has a row under this key.
-    pub(crate) fn is_row(&self, kind: usize, key: &Key) -> bool
-        ensures { result ≡ is_some (row self.now kind key.now) }
-    {
-        find_row(self.rows_at(kind), key).is_some()
     }
 
     /// Whether a row is there. It takes no memory, nor does `text`.
     pub fn has_row(&self, kind: u16, key: &Key) -> bool
         ensures { result ≡ is_some (row self.now kind key.now) }
     {
-        self.is_row(usize::from(kind), key)
+        find_row(self.rows(kind), key).is_some()
     }
 
     /// A row's field, empty where the row or the field isn't there.

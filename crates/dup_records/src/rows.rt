@@ -4,7 +4,7 @@ ghost use Rattle.std.specs.List.{find, filter, HoldsAt};
 ghost use Rattle.std.specs.List.Sorted.{IsSearchInRange, IsPartitionPoint};
 ghost use Rattle.std.specs.Option.{option_map, option_copied, unwrap_or};
 ghost use Rattle.std.specs.declared.cmp.Ordering.TheVariants.{Less, Equal, Greater};
-ghost use Rattle.dup_names.specs.Words.{place, same};
+ghost use Rattle.dup_names.specs.Words.{same};
 ghost use Rattle.dup_names.specs.Order.{text_cmp};
 ghost use Rattle.dup_model.specs.Content.{texts_at};
 ghost use Rattle.dup_model.specs.Commits.{blank, put_row, with_fields};
@@ -12,7 +12,7 @@ ghost use Rattle.dup_model.specs.Tables.{IsRising};
 ghost use Rattle.dup_records.specs.Places.{IsAt, IsGap};
 
 use dup_lists::Listed;
-use dup_names::{Key, Name, NoMemory, Text};
+use dup_names::{Key, Name, NoMemory, Text, place_of};
 use std::alloc::Global;
 
 /// A row: its key, and the text of each field.
@@ -100,19 +100,6 @@ pub(crate) fn blank_texts(alloc: Global, names: &[Name]) -> Result<Vec<Text>, No
         made.push(empty_text(alloc)?)?;
     }
     Ok(made)
-}
-
-/// The place of a name, or their number where it is absent.
-pub(crate) fn place_of(names: &[Name], name: &Name) -> usize
-    ensures value { result ≡ place name.now names.now }
-    ensures within { result ≤ length names.now }
-{
-    for (index, other) in names.iter().enumerate() {
-        if other == name {
-            return index;
-        }
-    }
-    names.len()
 }
 
 /// Sets the named fields.

@@ -1,16 +1,16 @@
-mod Cuts
-mod Cuts2
-mod Round
-mod LineLaw
-mod Spells
-mod Stack
-mod Writes
-pub mod Names
-mod Sizes
-mod Along
-mod Beyond
-mod Whole
-mod Lines
-mod Deep
-mod Spoils
-mod Steps
+mod Utf8
+mod LineCuts
+mod LinesSayParts
+mod WrittenLines
+mod SpelledLines
+mod OpenStack
+mod SpacedWords
+pub mod NamesRead
+mod StatementSizes
+mod GoesAlong
+mod GoesAlongPast
+mod KeptBreaksSame
+mod KeepsSaid
+mod SameFirstFault
+mod GoesAlongTooDeep
+mod KeepGoesAlong

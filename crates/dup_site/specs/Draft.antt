@@ -6,10 +6,10 @@ use Rattle.dup_template.specs.declared.site.TemplatePart.{TemplatePart}
 use Rattle.dup_template.specs.declared.site.PageRule.{PageRule}
 use Rattle.dup_template.specs.declared.statement.Statement.{Statement}
 use Rattle.dup_template.specs.declared.statement.Statement.TheVariants as statement
-use Rattle.dup_site.specs.declared.line.Line.{Line}
-use Rattle.dup_site.specs.declared.line.Line.TheVariants.{Blank, Kind, Page, Open as Opens, Say, Nl, Field, Key, Embed, End}
-use Rattle.dup_site.specs.declared.line.Head.{Head}
-use Rattle.dup_site.specs.declared.line.Head.TheVariants.{Template, If, Each, Link}
+use Rattle.dup_site.specs.declared.site_line.SiteLine.{SiteLine}
+use Rattle.dup_site.specs.declared.site_line.SiteLine.TheVariants.{Blank, Kind, Page, Open as Opens, Say, Nl, Field, Key, Embed, End}
+use Rattle.dup_site.specs.declared.site_line.Head.{Head}
+use Rattle.dup_site.specs.declared.site_line.Head.TheVariants.{Template, If, Each, Link}
 
 -- a template or a statement that is open, and its statements so far
 pub record Open : Type 0 where
@@ -86,7 +86,7 @@ open_head (Each of by order) d = open_statement (Each of by order) d d.stack
 open_head (Link name via) d = open_statement (Link name via) d d.stack
 
 -- the draft with one line more, where the line may stand there
-abbrev pub step : Draft → Line → Option Draft
+abbrev pub step : Draft → SiteLine → Option Draft
 step d Blank = Some d
 step d (Kind name fields) = put_kind (record { name = name; fields = fields }) d d.stack d.templates d.pages
 step d (Page rule) = put_page rule d d.stack
@@ -99,7 +99,7 @@ step d (Embed name via) = put (statement.Embed name via) d d.stack
 step d End = end d d.stack
 
 -- a line that isn't of any form is None
-abbrev pub step_at : Draft → Option Line → Option Draft
+abbrev pub step_at : Draft → Option SiteLine → Option Draft
 step_at d None = None
 step_at d (Some line) = step d line
 
@@ -112,9 +112,9 @@ onward n None rest = Err n
 onward n (Some d) rest = rest d
 
 -- the parts that the lines say, or the number of the first line that may not stand where it stands; n: the number of the first
-abbrev pub said_from : ℕ → Draft → List (Option Line) → Result Parts ℕ
+abbrev pub said_from : ℕ → Draft → List (Option SiteLine) → Result Parts ℕ
 said_from n d [] = finished n d d.stack
 said_from n d (l ∷ ls) = onward n (step_at d l) (λ e. said_from (n + 1) e ls)
 
-abbrev pub said : List (Option Line) → Result Parts ℕ
+abbrev pub said : List (Option SiteLine) → Result Parts ℕ
 said ls = said_from 1 blank ls

@@ -1,10 +1,10 @@
 -- A reading's parts and what is open, as the definitions see them.
 use Rattle.std.specs.Prelude.{◌≡◌, List, [], ◌∷◌, ◌++◌, Option, Some, None, Result, Ok, Err, Bool, true, false}
 use Rattle.dup_site.specs.declared.draft.Open.{Open as Frame}
-use Rattle.dup_site.specs.declared.draft.Reading.{Reading}
+use Rattle.dup_site.specs.declared.draft.SiteReading.{SiteReading}
 use Rattle.dup_site.specs.declared.keeping.Keeping.{Keeping as Reader}
 use Rattle.dup_site.specs.Draft.{Draft, Open}
-use Rattle.dup_site.specs.Kept.{Keeping}
+use Rattle.dup_site.specs.KeptStatements.{Keeping}
 
 abbrev pub seen_open : Frame → Open
 seen_open o = record { head = o.head; done = o.done.items }
@@ -14,7 +14,7 @@ abbrev pub outward : List Frame → List Open
 outward [] = []
 outward (o ∷ os) = outward os ++ seen_open o ∷ []
 
-abbrev pub drafted : Reading → Draft
+abbrev pub drafted : SiteReading → Draft
 drafted r = record { kinds = r.kinds.items; templates = r.templates.items; pages = r.pages.items; stack = outward r.stack.items }
 
 abbrev pub keeping_of : Reader → Keeping

@@ -1,8 +1,8 @@
 pub mod Canonical
 pub mod Draft
 pub mod Drafted
-pub mod Found
-pub mod Kept
+pub mod SeenWords
+pub mod KeptStatements
 pub mod Reads
-pub mod Spans
+pub mod LineSpans
 pub mod Spelling

@@ -1,9 +1,10 @@
+// What the lines of a site text say, one line after another.
 ghost use Rattle.std.specs.Prelude.{◌≡◌, Some, None, IfOk, IfSome, [], if◌then◌else◌};
 ghost use Rattle.dup_site.specs.Draft as draft;
 ghost use Rattle.dup_site.specs.Drafted.{drafted, Goes};
 ghost use Rattle.dup_template.specs.declared.statement.Statement.TheVariants as statement;
 
-use crate::line::{Head, Line};
+use crate::site_line::{Head, SiteLine};
 use dup_template::{Body, KindPart, PageRule, Statement, TemplatePart};
 use std::alloc::{AllocError, Global};
 
@@ -16,7 +17,7 @@ pub struct Open {
 
 /// The parts so far, and what is open, the innermost last.
 #[derive(Drop)]
-pub struct Reading {
+pub struct SiteReading {
     pub kinds: Vec<KindPart>,
     pub templates: Vec<TemplatePart>,
     pub pages: Vec<PageRule>,
@@ -26,8 +27,8 @@ pub struct Reading {
 /// Whether the line may stand there.
 pub(crate) type Stands = Result<bool, AllocError>;
 
-#[tactic(auto, using(crate::proofs::Stack::outward_last))]
-fn put(reading: &mut Reading, statement: Statement) -> Stands
+#[tactic(auto, using(crate::proofs::OpenStack::outward_last))]
+fn put(reading: &mut SiteReading, statement: Statement) -> Stands
     ensures { Goes result (drafted reading.new) (draft.put statement (drafted reading.old) (drafted reading.old).stack) }
 {
     match reading.stack.pop() {
@@ -41,8 +42,8 @@ fn put(reading: &mut Reading, statement: Statement) -> Stands
     }
 }
 
-#[tactic(auto, using(crate::proofs::Stack::outward_last))]
-fn open_statement(alloc: Global, reading: &mut Reading, head: Head) -> Stands
+#[tactic(auto, using(crate::proofs::OpenStack::outward_last))]
+fn open_statement(alloc: Global, reading: &mut SiteReading, head: Head) -> Stands
     ensures { Goes result (drafted reading.new) (draft.open_statement head (drafted reading.old) (drafted reading.old).stack) }
 {
     match reading.stack.pop() {
@@ -56,8 +57,8 @@ fn open_statement(alloc: Global, reading: &mut Reading, head: Head) -> Stands
     }
 }
 
-#[tactic(auto, using(crate::proofs::Stack::outward_last))]
-fn put_template(reading: &mut Reading, template: TemplatePart) -> Stands
+#[tactic(auto, using(crate::proofs::OpenStack::outward_last))]
+fn put_template(reading: &mut SiteReading, template: TemplatePart) -> Stands
     ensures { Goes result (drafted reading.new) (draft.put_template template (drafted reading.old) (drafted reading.old).stack) }
 {
     match reading.stack.pop() {
@@ -69,8 +70,8 @@ fn put_template(reading: &mut Reading, template: TemplatePart) -> Stands
     }
 }
 
-#[tactic(auto, using(crate::proofs::Stack::outward_last))]
-fn put_page(reading: &mut Reading, rule: PageRule) -> Stands
+#[tactic(auto, using(crate::proofs::OpenStack::outward_last))]
+fn put_page(reading: &mut SiteReading, rule: PageRule) -> Stands
     ensures { Goes result (drafted reading.new) (draft.put_page rule (drafted reading.old) (drafted reading.old).stack) }
 {
     match reading.stack.pop() {
@@ -82,7 +83,7 @@ fn put_page(reading: &mut Reading, rule: PageRule) -> Stands
     }
 }
 
-fn close(reading: &mut Reading, head: Head, done: Vec<Statement>) -> Stands
+fn close(reading: &mut SiteReading, head: Head, done: Vec<Statement>) -> Stands
     ensures { Goes result (drafted reading.new) (draft.close head done.items (drafted reading.old) (drafted reading.old).stack) }
 {
     match head {
@@ -121,8 +122,8 @@ fn close(reading: &mut Reading, head: Head, done: Vec<Statement>) -> Stands
     }
 }
 
-#[tactic(auto, using(crate::proofs::Stack::outward_last))]
-fn end(reading: &mut Reading) -> Stands
+#[tactic(auto, using(crate::proofs::OpenStack::outward_last))]
+fn end(reading: &mut SiteReading) -> Stands
     ensures { Goes result (drafted reading.new) (draft.end (drafted reading.old) (drafted reading.old).stack) }
 {
     match reading.stack.pop() {
@@ -134,7 +135,7 @@ fn end(reading: &mut Reading) -> Stands
     }
 }
 
-fn open_template(alloc: Global, reading: &mut Reading, head: Head) -> Stands
+fn open_template(alloc: Global, reading: &mut SiteReading, head: Head) -> Stands
     ensures { Goes result (drafted reading.new) (draft.open_template head (drafted reading.old) (drafted reading.old).stack reading.old.pages.items) }
 {
     if !reading.pages.as_slice().is_empty() {
@@ -143,8 +144,8 @@ fn open_template(alloc: Global, reading: &mut Reading, head: Head) -> Stands
     open_first(alloc, reading, head)
 }
 
-#[tactic(auto, using(crate::proofs::Stack::outward_last))]
-fn open_first(alloc: Global, reading: &mut Reading, head: Head) -> Stands
+#[tactic(auto, using(crate::proofs::OpenStack::outward_last))]
+fn open_first(alloc: Global, reading: &mut SiteReading, head: Head) -> Stands
     ensures { Goes result (drafted reading.new) (draft.open_first head (drafted reading.old) (drafted reading.old).stack) }
 {
     match reading.stack.pop() {
@@ -157,8 +158,8 @@ fn open_first(alloc: Global, reading: &mut Reading, head: Head) -> Stands
     }
 }
 
-#[tactic(auto, using(crate::proofs::Stack::outward_last))]
-fn put_first(reading: &mut Reading, kind: KindPart) -> Stands
+#[tactic(auto, using(crate::proofs::OpenStack::outward_last))]
+fn put_first(reading: &mut SiteReading, kind: KindPart) -> Stands
     ensures { Goes result (drafted reading.new) (draft.put_first kind (drafted reading.old) (drafted reading.old).stack) }
 {
     match reading.stack.pop() {
@@ -170,7 +171,7 @@ fn put_first(reading: &mut Reading, kind: KindPart) -> Stands
     }
 }
 
-fn put_kind(reading: &mut Reading, kind: KindPart) -> Stands
+fn put_kind(reading: &mut SiteReading, kind: KindPart) -> Stands
     ensures { Goes result (drafted reading.new) (draft.put_kind kind (drafted reading.old) (drafted reading.old).stack reading.old.templates.items reading.old.pages.items) }
 {
     if !reading.templates.as_slice().is_empty() || !reading.pages.as_slice().is_empty() {
@@ -179,7 +180,7 @@ fn put_kind(reading: &mut Reading, kind: KindPart) -> Stands
     put_first(reading, kind)
 }
 
-fn open_head(alloc: Global, reading: &mut Reading, head: Head) -> Stands
+fn open_head(alloc: Global, reading: &mut SiteReading, head: Head) -> Stands
     ensures { Goes result (drafted reading.new) (draft.open_head head (drafted reading.old)) }
 {
     match head {
@@ -197,19 +198,19 @@ fn open_head(alloc: Global, reading: &mut Reading, head: Head) -> Stands
 }
 
 /// Takes one line more; false where it may not stand there.
-pub(crate) fn step(alloc: Global, reading: &mut Reading, line: Line) -> Stands
+pub(crate) fn step(alloc: Global, reading: &mut SiteReading, line: SiteLine) -> Stands
     ensures { Goes result (drafted reading.new) (draft.step (drafted reading.old) line) }
 {
     match line {
-        Line::Blank => Ok(true),
-        Line::Kind { name, fields } => put_kind(reading, KindPart { name, fields }),
-        Line::Page(rule) => put_page(reading, rule),
-        Line::Open(head) => open_head(alloc, reading, head),
-        Line::Say(text) => put(reading, Statement::Say(text)),
-        Line::Nl => put(reading, Statement::Nl),
-        Line::Field(field) => put(reading, Statement::Field(field)),
-        Line::Key => put(reading, Statement::Key),
-        Line::Embed { template, via } => put(reading, Statement::Embed { template, via }),
-        Line::End => end(reading),
+        SiteLine::Blank => Ok(true),
+        SiteLine::Kind { name, fields } => put_kind(reading, KindPart { name, fields }),
+        SiteLine::Page(rule) => put_page(reading, rule),
+        SiteLine::Open(head) => open_head(alloc, reading, head),
+        SiteLine::Say(text) => put(reading, Statement::Say(text)),
+        SiteLine::Nl => put(reading, Statement::Nl),
+        SiteLine::Field(field) => put(reading, Statement::Field(field)),
+        SiteLine::Key => put(reading, Statement::Key),
+        SiteLine::Embed { template, via } => put(reading, Statement::Embed { template, via }),
+        SiteLine::End => end(reading),
     }
 }

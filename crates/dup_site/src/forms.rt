@@ -1,24 +1,18 @@
-ghost use Rattle.dup_names.specs.Words.{same};
+// The forms of the lines that begin with a keyword.
 ghost use Rattle.std.specs.Prelude.{◌≡◌, Some, None, IfOk, IsTrue, codes, map, if◌then◌else◌};
 ghost use Rattle.std.specs.List.{list_all};
 ghost use Rattle.std.specs.Str.{is_utf8};
 ghost use Rattle.dup_names.specs.Grammar.{is_name, is_path};
 ghost use Rattle.dup_template.specs.Texts.{is_prefix};
 ghost use Rattle.dup_site.specs.Spelling as spelling;
-ghost use Rattle.dup_site.specs.declared.line.Line.TheVariants as line;
-ghost use Rattle.dup_site.specs.Found.{seen, seen_rest};
+ghost use Rattle.dup_site.specs.declared.site_line.SiteLine.TheVariants as line;
+ghost use Rattle.dup_site.specs.SeenWords.{seen, seen_rest};
 
-use crate::line::{Head, Line};
+use crate::site_line::{Head, SiteLine};
 use dup_lists::Listed;
-use dup_names::{Name, NoMemory, Path};
+use dup_names::{Name, NoMemory, Path, is_word};
 use dup_template::{PageRule, Plain, Prefix};
 use std::alloc::{AllocError, Global};
-
-fn is_word(word: &[u8], wanted: &[u8]) -> bool
-    ensures { result ≡ same word.now wanted.now }
-{
-    word == wanted
-}
 
 fn name(word: &[u8]) -> Option<Name>
     ensures { result ≡ (if is_name word.now then Some word.now else None) }
@@ -94,7 +88,7 @@ fn marked<'a, 'w>(mark: &[u8], words: &'a [&'w [u8]]) -> Option<(Option<Name>, &
     }
 }
 
-fn at_end(words: &[&[u8]], line: Line) -> Option<Line>
+fn at_end(words: &[&[u8]], line: SiteLine) -> Option<SiteLine>
     ensures { result ≡ spelling.at_end (seen words.now) line }
 {
     match words {
@@ -103,25 +97,25 @@ fn at_end(words: &[&[u8]], line: Line) -> Option<Line>
     }
 }
 
-fn field_line(words: &[&[u8]]) -> Option<Line>
+fn field_line(words: &[&[u8]]) -> Option<SiteLine>
     ensures { result ≡ spelling.one_name line.Field (seen words.now) }
 {
     let Some((name, rest)) = name_first(words) else {
         return None;
     };
-    at_end(rest, Line::Field(name))
+    at_end(rest, SiteLine::Field(name))
 }
 
-fn if_line(words: &[&[u8]]) -> Option<Line>
+fn if_line(words: &[&[u8]]) -> Option<SiteLine>
     ensures { result ≡ spelling.one_name spelling.if_head (seen words.now) }
 {
     let Some((name, rest)) = name_first(words) else {
         return None;
     };
-    at_end(rest, Line::Open(Head::If(name)))
+    at_end(rest, SiteLine::Open(Head::If(name)))
 }
 
-fn template_line(words: &[&[u8]]) -> Option<Line>
+fn template_line(words: &[&[u8]]) -> Option<SiteLine>
     ensures { result ≡ spelling.marked_line (codes "of") spelling.template_head (seen words.now) }
 {
     let Some((name, rest)) = name_first(words) else {
@@ -130,10 +124,10 @@ fn template_line(words: &[&[u8]]) -> Option<Line>
     let Some((kind, rest)) = marked(b"of", rest) else {
         return None;
     };
-    at_end(rest, Line::Open(Head::Template { name, kind }))
+    at_end(rest, SiteLine::Open(Head::Template { name, kind }))
 }
 
-fn embed_line(words: &[&[u8]]) -> Option<Line>
+fn embed_line(words: &[&[u8]]) -> Option<SiteLine>
     ensures { result ≡ spelling.marked_line (codes "via") line.Embed (seen words.now) }
 {
     let Some((template, rest)) = name_first(words) else {
@@ -142,10 +136,10 @@ fn embed_line(words: &[&[u8]]) -> Option<Line>
     let Some((via, rest)) = marked(b"via", rest) else {
         return None;
     };
-    at_end(rest, Line::Embed { template, via })
+    at_end(rest, SiteLine::Embed { template, via })
 }
 
-fn link_line(words: &[&[u8]]) -> Option<Line>
+fn link_line(words: &[&[u8]]) -> Option<SiteLine>
     ensures { result ≡ spelling.marked_line (codes "via") spelling.link_head (seen words.now) }
 {
     let Some((template, rest)) = name_first(words) else {
@@ -154,10 +148,10 @@ fn link_line(words: &[&[u8]]) -> Option<Line>
     let Some((via, rest)) = marked(b"via", rest) else {
         return None;
     };
-    at_end(rest, Line::Open(Head::Link { template, via }))
+    at_end(rest, SiteLine::Open(Head::Link { template, via }))
 }
 
-fn each_line(words: &[&[u8]]) -> Option<Line>
+fn each_line(words: &[&[u8]]) -> Option<SiteLine>
     ensures { result ≡ spelling.each_line (seen words.now) }
 {
     let Some((kind, rest)) = name_first(words) else {
@@ -169,10 +163,10 @@ fn each_line(words: &[&[u8]]) -> Option<Line>
     let Some((order, rest)) = marked(b"order", rest) else {
         return None;
     };
-    at_end(rest, Line::Open(Head::Each { kind, by, order }))
+    at_end(rest, SiteLine::Open(Head::Each { kind, by, order }))
 }
 
-fn page_line(words: &[&[u8]]) -> Option<Line>
+fn page_line(words: &[&[u8]]) -> Option<SiteLine>
     ensures { result ≡ spelling.page_line (seen words.now) }
 {
     let Some((path, rest)) = path_first(words) else {
@@ -181,10 +175,10 @@ fn page_line(words: &[&[u8]]) -> Option<Line>
     let Some((template, rest)) = name_first(rest) else {
         return None;
     };
-    at_end(rest, Line::Page(PageRule::Fixed { path, template }))
+    at_end(rest, SiteLine::Page(PageRule::Fixed { path, template }))
 }
 
-fn family_line(words: &[&[u8]]) -> Option<Line>
+fn family_line(words: &[&[u8]]) -> Option<SiteLine>
     ensures { result ≡ spelling.family_line (seen words.now) }
 {
     let Some((prefix, rest)) = prefix_first(words) else {
@@ -193,7 +187,7 @@ fn family_line(words: &[&[u8]]) -> Option<Line>
     let Some((template, rest)) = name_first(rest) else {
         return None;
     };
-    at_end(rest, Line::Page(PageRule::Family { prefix, template }))
+    at_end(rest, SiteLine::Page(PageRule::Family { prefix, template }))
 }
 
 fn names(alloc: Global, words: &[&[u8]]) -> Result<Option<Listed<Name>>, AllocError>
@@ -209,7 +203,7 @@ fn names(alloc: Global, words: &[&[u8]]) -> Result<Option<Listed<Name>>, AllocEr
     Ok(Some(Listed::of(names)))
 }
 
-fn kind_line(alloc: Global, words: &[&[u8]]) -> Result<Option<Line>, NoMemory>
+fn kind_line(alloc: Global, words: &[&[u8]]) -> Result<Option<SiteLine>, NoMemory>
     ensures { IfOk result (λ read. read ≡ spelling.kind_line (seen words.now)) }
 {
     match words {
@@ -217,14 +211,18 @@ fn kind_line(alloc: Global, words: &[&[u8]]) -> Result<Option<Line>, NoMemory>
             None => Ok(None),
             Some(name) => match names(alloc, rest)? {
                 None => Ok(None),
-                Some(fields) => Ok(Some(Line::Kind { name, fields })),
+                Some(fields) => Ok(Some(SiteLine::Kind { name, fields })),
             },
         },
         [] => Ok(None),
     }
 }
 
-pub(crate) fn by_word(alloc: Global, word: &[u8], rest: &[&[u8]]) -> Result<Option<Line>, NoMemory>
+pub(crate) fn by_word(
+    alloc: Global,
+    word: &[u8],
+    rest: &[&[u8]],
+) -> Result<Option<SiteLine>, NoMemory>
     ensures { IfOk result (λ read. read ≡ spelling.by_word word.now (seen rest.now)) }
 {
     if is_word(word, b"kind") {
@@ -236,11 +234,11 @@ pub(crate) fn by_word(alloc: Global, word: &[u8], rest: &[&[u8]]) -> Result<Opti
     } else if is_word(word, b"family") {
         Ok(family_line(rest))
     } else if is_word(word, b"nl") {
-        Ok(at_end(rest, Line::Nl))
+        Ok(at_end(rest, SiteLine::Nl))
     } else if is_word(word, b"field") {
         Ok(field_line(rest))
     } else if is_word(word, b"key") {
-        Ok(at_end(rest, Line::Key))
+        Ok(at_end(rest, SiteLine::Key))
     } else if is_word(word, b"if") {
         Ok(if_line(rest))
     } else if is_word(word, b"each") {
@@ -250,7 +248,7 @@ pub(crate) fn by_word(alloc: Global, word: &[u8], rest: &[&[u8]]) -> Result<Opti
     } else if is_word(word, b"link") {
         Ok(link_line(rest))
     } else if is_word(word, b"end") {
-        Ok(at_end(rest, Line::End))
+        Ok(at_end(rest, SiteLine::End))
     } else {
         Ok(None)
     }

@@ -1,23 +1,20 @@
+// What is kept of a site text.
 ghost use Rattle.std.specs.Prelude.{◌≡◌, ◌≤◌, ◌<◌, ◌+◌, false};
-ghost use Rattle.dup_site.specs.Kept as kept;
+ghost use Rattle.dup_names.specs.declared.limits.TheConstants.{MAX_STATEMENTS};
+ghost use Rattle.dup_site.specs.KeptStatements as kept;
 ghost use Rattle.dup_site.specs.Drafted.{drafted, keeping_of, Goes};
 
-use crate::draft::{Reading, Stands, step};
-use crate::line::{Head, Line};
+use crate::draft::{SiteReading, Stands, step};
+use crate::site_line::{Head, SiteLine};
+use dup_names::{MAX_NESTING, MAX_STATEMENTS};
 use std::alloc::Global;
 
-/// How many statements of a template are kept: one more than a good template has.
-const MOST: u64 = 4097;
-
-/// How many heads are open at most where a statement may be opened in a good template.
-const DEEPEST: usize = 8;
-
-/// What was read so far, of each template its first statements. A text may nest as deep as it is
+/// What was read so far, of each template its first statements: one more than a good template has. A text may nest as deep as it is
 /// long; what is kept of it doesn't: behind the first statement that is too deep, or past those that
 /// are kept, `nl` stands for a statement as long as there is room.
 #[derive(Drop)]
 pub struct Keeping {
-    pub reading: Reading,
+    pub reading: SiteReading,
     /// The statements of the open template that were begun, up to those that are kept.
     pub begun: u64,
     /// The open statements that weren't kept.
@@ -45,38 +42,38 @@ fn head_size(head: &Head) -> u64
     }
 }
 
-fn begins(line: &Line) -> u64
+fn begins(line: &SiteLine) -> u64
     ensures value { result ≡ kept.begins line.now }
     ensures small { result ≤ 1 }
 {
     match line {
-        Line::Blank | Line::Page(_) | Line::End => 0,
-        Line::Kind { name: _, fields: _ } => 0,
-        Line::Open(head) => head_size(head),
-        Line::Say(_) | Line::Nl | Line::Field(_) | Line::Key => 1,
-        Line::Embed {
+        SiteLine::Blank | SiteLine::Page(_) | SiteLine::End => 0,
+        SiteLine::Kind { name: _, fields: _ } => 0,
+        SiteLine::Open(head) => head_size(head),
+        SiteLine::Say(_) | SiteLine::Nl | SiteLine::Field(_) | SiteLine::Key => 1,
+        SiteLine::Embed {
             template: _,
             via: _,
         } => 1,
     }
 }
 
-fn opens(line: &Line) -> bool
+fn opens(line: &SiteLine) -> bool
     ensures { result ≡ kept.opens line.now }
 {
     match line {
-        Line::Open(head) => head_size(head) == 1,
-        Line::Blank | Line::Page(_) | Line::End => false,
-        Line::Kind { name: _, fields: _ } => false,
-        Line::Say(_) | Line::Nl | Line::Field(_) | Line::Key => false,
-        Line::Embed {
+        SiteLine::Open(head) => head_size(head) == 1,
+        SiteLine::Blank | SiteLine::Page(_) | SiteLine::End => false,
+        SiteLine::Kind { name: _, fields: _ } => false,
+        SiteLine::Say(_) | SiteLine::Nl | SiteLine::Field(_) | SiteLine::Key => false,
+        SiteLine::Embed {
             template: _,
             via: _,
         } => false,
     }
 }
 
-#[tactic(auto, using(crate::proofs::Stack::outward_none, crate::proofs::Stack::outward_some))]
+#[tactic(auto, using(crate::proofs::OpenStack::outward_none, crate::proofs::OpenStack::outward_some))]
 fn count(keeping: &mut Keeping, begun: u64, deep: bool)
     ensures { keeping_of keeping.new ≡ kept.counted begun deep (drafted keeping.old.reading) }
 {
@@ -86,8 +83,8 @@ fn count(keeping: &mut Keeping, begun: u64, deep: bool)
     keeping.passed = 0;
 }
 
-fn within(alloc: Global, keeping: &mut Keeping, line: Line) -> Stands
-    requires { keeping.old.begun < 4097 }
+fn within(alloc: Global, keeping: &mut Keeping, line: SiteLine) -> Stands
+    requires { keeping.old.begun < MAX_STATEMENTS + 1 }
     ensures step { Goes result (keeping_of keeping.new) (kept.within (keeping_of keeping.old) line) }
     ensures passed { keeping.new.passed ≤ keeping.old.passed + 1 }
 {
@@ -103,12 +100,12 @@ fn mark(alloc: Global, keeping: &mut Keeping, passed: u64) -> Stands
     ensures passed { keeping.new.passed ≡ passed }
 {
     keeping.passed = passed;
-    if keeping.begun >= MOST {
+    if keeping.begun > MAX_STATEMENTS as u64 {
         return Ok(true);
     }
     keeping.begun += 1;
     keeping.deep = true;
-    step(alloc, &mut keeping.reading, Line::Nl)
+    step(alloc, &mut keeping.reading, SiteLine::Nl)
 }
 
 fn pass_head(alloc: Global, keeping: &mut Keeping, head: &Head) -> Stands
@@ -123,7 +120,7 @@ fn pass_head(alloc: Global, keeping: &mut Keeping, head: &Head) -> Stands
     mark(alloc, keeping, passed)
 }
 
-#[tactic(auto, using(crate::proofs::Stack::pass_end_some, crate::proofs::Stack::pass_end_none))]
+#[tactic(auto, using(crate::proofs::OpenStack::pass_end_some, crate::proofs::OpenStack::pass_end_none))]
 fn pass_end(alloc: Global, keeping: &mut Keeping) -> Stands
     ensures step { Goes result (keeping_of keeping.new) (kept.pass_end (keeping_of keeping.old) keeping.old.passed) }
     ensures passed { keeping.new.passed ≤ keeping.old.passed + 1 }
@@ -134,24 +131,26 @@ fn pass_end(alloc: Global, keeping: &mut Keeping) -> Stands
     }
     let begun = keeping.begun;
     let deep = keeping.deep;
-    let stands = step(alloc, &mut keeping.reading, Line::End)?;
+    let stands = step(alloc, &mut keeping.reading, SiteLine::End)?;
     count(keeping, begun, deep);
     Ok(stands)
 }
 
-fn beyond(alloc: Global, keeping: &mut Keeping, line: Line) -> Stands
+fn beyond(alloc: Global, keeping: &mut Keeping, line: SiteLine) -> Stands
     requires { keeping.old.passed < u64.MAX }
     ensures step { Goes result (keeping_of keeping.new) (kept.beyond (keeping_of keeping.old) line) }
     ensures passed { keeping.new.passed ≤ keeping.old.passed + 1 }
 {
     let passed = keeping.passed;
     match &line {
-        Line::Blank => Ok(true),
-        Line::Kind { name: _, fields: _ } | Line::Page(_) => Ok(false),
-        Line::Open(head) => pass_head(alloc, keeping, head),
-        Line::End => pass_end(alloc, keeping),
-        Line::Say(_) | Line::Nl | Line::Field(_) | Line::Key => mark(alloc, keeping, passed),
-        Line::Embed {
+        SiteLine::Blank => Ok(true),
+        SiteLine::Kind { name: _, fields: _ } | SiteLine::Page(_) => Ok(false),
+        SiteLine::Open(head) => pass_head(alloc, keeping, head),
+        SiteLine::End => pass_end(alloc, keeping),
+        SiteLine::Say(_) | SiteLine::Nl | SiteLine::Field(_) | SiteLine::Key => mark(
+            alloc, keeping, passed,
+        ),
+        SiteLine::Embed {
             template: _,
             via: _,
         } => mark(alloc, keeping, passed),
@@ -160,20 +159,20 @@ fn beyond(alloc: Global, keeping: &mut Keeping, line: Line) -> Stands
 
 fn is_past(keeping: &Keeping) -> bool
     ensures value { result ≡ kept.is_past (keeping_of keeping.now) }
-    ensures room { result ≡ false → keeping.now.begun < 4097 }
+    ensures room { result ≡ false → keeping.now.begun < MAX_STATEMENTS + 1 }
 {
-    keeping.deep || keeping.begun >= MOST
+    keeping.deep || keeping.begun > MAX_STATEMENTS as u64
 }
 
-#[tactic(auto, using(crate::proofs::Stack::outward_length))]
-fn is_too_deep(keeping: &Keeping, line: &Line) -> bool
+#[tactic(auto, using(crate::proofs::OpenStack::outward_length))]
+fn is_too_deep(keeping: &Keeping, line: &SiteLine) -> bool
     ensures { result ≡ kept.is_too_deep (keeping_of keeping.now) line.now }
 {
-    opens(line) && keeping.reading.stack.len() > DEEPEST
+    opens(line) && keeping.reading.stack.len() > MAX_NESTING
 }
 
 /// Takes one line more; false where it may not stand there.
-pub(crate) fn keep(alloc: Global, keeping: &mut Keeping, line: Line) -> Stands
+pub(crate) fn keep(alloc: Global, keeping: &mut Keeping, line: SiteLine) -> Stands
     requires { keeping.old.passed < u64.MAX }
     ensures step { Goes result (keeping_of keeping.new) (kept.keep (keeping_of keeping.old) line) }
     ensures passed { keeping.new.passed ≤ keeping.old.passed + 1 }

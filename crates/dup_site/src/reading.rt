@@ -1,14 +1,15 @@
+// A site text is read line by line.
 ghost use Rattle.std.specs.Prelude.{◌≡◌, ◌≤◌, ◌<◌, ◌+◌, ◌∷◌, length};
 ghost use Rattle.dup_names.specs.Lines as lines;
-ghost use Rattle.dup_site.specs.Spans as spans;
+ghost use Rattle.dup_site.specs.LineSpans as spans;
 ghost use Rattle.dup_site.specs.Draft as draft;
 ghost use Rattle.dup_site.specs.Drafted.{drafted, keeping_of, Goes};
-ghost use Rattle.dup_site.specs.Kept as kept;
-ghost use Rattle.dup_site.specs.Kept.{Keeps};
+ghost use Rattle.dup_site.specs.KeptStatements as kept;
+ghost use Rattle.dup_site.specs.KeptStatements.{Keeps};
 ghost use Rattle.dup_site.specs.Reads.{Reads, Says, site_says};
 ghost use Rattle.dup_site.specs.Spelling.{line_of, text_says};
 
-use crate::draft::Reading;
+use crate::draft::SiteReading;
 use crate::keeping::{Keeping, keep};
 use crate::read_line::read_line;
 use dup_lists::Listed;
@@ -50,11 +51,11 @@ fn take_line(alloc: Global, keeping: &mut Keeping, line: &[u8]) -> Result<bool, 
     }
 }
 
-#[tactic(auto, using(crate::proofs::Stack::outward_last))]
-fn finished(reading: Reading, number: u64) -> Result<Parts, SiteTextRefusal>
+#[tactic(auto, using(crate::proofs::OpenStack::outward_last))]
+fn finished(reading: SiteReading, number: u64) -> Result<Parts, SiteTextRefusal>
     ensures { Says result (draft.finished number (drafted reading) (drafted reading).stack) }
 {
-    let Reading {
+    let SiteReading {
         kinds,
         templates,
         pages,
@@ -74,7 +75,7 @@ fn finished(reading: Reading, number: u64) -> Result<Parts, SiteTextRefusal>
 fn read_parts(alloc: Global, text: &[u8]) -> Result<Parts, SiteTextRefusal>
     ensures { Keeps result (text_says text.now) }
 {
-    let reading = Reading {
+    let reading = SiteReading {
         kinds: Vec::new(alloc),
         templates: Vec::new(alloc),
         pages: Vec::new(alloc),

@@ -1,13 +1,17 @@
 -- The first rule that parts break, in the order in which a check looks at them.
-use Rattle.std.specs.Prelude.{ℕ, ◌+◌, Bool, true, false, not, ◌&&◌, List, [], ◌∷◌, ◌++◌, map, length, take, drop, Option, Some, None, is_some, nat_eq, nat_lt, if◌then◌else◌, Result, Ok, Err, ◌≡◌}
+use Rattle.std.specs.Prelude.{◌≡◌, ℕ, ◌+◌, Bool, true, false, not, ◌&&◌, nat_eq, nat_lt, if◌then◌else◌}
+use Rattle.std.specs.Prelude.{List, [], ◌∷◌, ◌++◌, map, length, take, drop, Option, Some, None, is_some, Result, Ok, Err}
 use Rattle.std.specs.List.{list_any, find, sum_by}
 use Rattle.std.specs.Option.{option_or}
 use Rattle.dup_names.specs.Words.{Word, same}
 use Rattle.dup_names.specs.Grammar.{is_key}
+use Rattle.dup_names.specs.declared.limits.TheConstants.{MAX_KINDS, MAX_FIELDS, MAX_TEMPLATES, MAX_PAGE_RULES}
+use Rattle.dup_names.specs.declared.limits.TheConstants.{MAX_STATEMENTS, MAX_NESTING}
 use Rattle.dup_template.specs.declared.refusal.What.{What}
 use Rattle.dup_template.specs.declared.refusal.What.TheVariants.{Kinds, Fields, Templates, Pages, Statements, Nesting}
 use Rattle.dup_template.specs.declared.refusal.SiteRefusal.{SiteRefusal}
-use Rattle.dup_template.specs.declared.refusal.SiteRefusal.TheVariants.{Twice, Unknown, LaterTemplate, WrongKind, NoPage, PathClash, TooMany, NoMemory}
+use Rattle.dup_template.specs.declared.refusal.SiteRefusal.TheVariants.{Twice, Unknown, LaterTemplate, WrongKind}
+use Rattle.dup_template.specs.declared.refusal.SiteRefusal.TheVariants.{NoPage, PathClash, TooMany, NoMemory}
 use Rattle.dup_template.specs.declared.site.Parts.{Parts}
 use Rattle.dup_template.specs.declared.site.KindPart.{KindPart}
 use Rattle.dup_template.specs.declared.site.TemplatePart.{TemplatePart}
@@ -42,13 +46,13 @@ abbrev pub kind_names : List KindPart → List Word
 kind_names ks = map (λ k. k.name) ks
 
 abbrev pub fields_fault : List Word → Fault
-fields_fault fs = option_or (at_most 32 Fields (length fs)) (first_from new_name [] fs)
+fields_fault fs = option_or (at_most MAX_FIELDS Fields (length fs)) (first_from new_name [] fs)
 
 abbrev pub kind_fault : List KindPart → KindPart → Fault
 kind_fault earlier k = option_or (new_name (kind_names earlier) k.name) (fields_fault k.fields)
 
 abbrev pub kinds_fault : List KindPart → Fault
-kinds_fault ks = option_or (at_most 64 Kinds (length ks)) (first_from kind_fault [] ks)
+kinds_fault ks = option_or (at_most MAX_KINDS Kinds (length ks)) (first_from kind_fault [] ks)
 
 -- 2. Heads of templates
 abbrev pub template_names : List TemplatePart → List Word
@@ -62,7 +66,7 @@ abbrev pub head_fault : List KindPart → List TemplatePart → TemplatePart →
 head_fault kinds earlier t = option_or (new_name (template_names earlier) t.name) (kind_known kinds t.kind)
 
 abbrev pub heads_fault : List KindPart → List TemplatePart → Fault
-heads_fault kinds ts = option_or (at_most 256 Templates (length ts)) (first_from (head_fault kinds) [] ts)
+heads_fault kinds ts = option_or (at_most MAX_TEMPLATES Templates (length ts)) (first_from (head_fault kinds) [] ts)
 
 -- 3. Declarations of pages
 abbrev pub shown_by : PageRule → Word
@@ -114,7 +118,7 @@ page_fault ts earlier rule =
     (unless (not (list_any (λ r. meet r rule) earlier)) (PathClash (place_of rule))))
 
 abbrev pub pages_fault : List TemplatePart → List PageRule → Fault
-pages_fault ts rules = option_or (at_most 256 Pages (length rules)) (first_from (page_fault ts) [] rules)
+pages_fault ts rules = option_or (at_most MAX_PAGE_RULES Pages (length rules)) (first_from (page_fault ts) [] rules)
 
 -- 4. Bodies
 abbrev pub find_kind : List KindPart → Word → Option KindPart
@@ -182,15 +186,19 @@ own_rule site earlier own (Statement-F.Say words) kind depth = None
 own_rule site earlier own Statement-F.Nl kind depth = None
 own_rule site earlier own (Statement-F.Field f) kind depth = field_fault site own kind f
 own_rule site earlier own Statement-F.Key kind depth = key_fault own kind
-own_rule site earlier own (Statement-F.If f body) kind depth = option_or (field_fault site own kind f) (in_turn body kind (depth + 1))
-own_rule site earlier own (Statement-F.Each of by order body) kind depth = option_or (each_fault site own kind of by order) (in_turn body (Some of) (depth + 1))
-own_rule site earlier own (Statement-F.Embed name via) kind depth = embed_fault site earlier own kind name via (find_template site.templates name)
+own_rule site earlier own (Statement-F.If f body) kind depth =
+    option_or (field_fault site own kind f) (in_turn body kind (depth + 1))
+own_rule site earlier own (Statement-F.Each of by order body) kind depth =
+    option_or (each_fault site own kind of by order) (in_turn body (Some of) (depth + 1))
+own_rule site earlier own (Statement-F.Embed name via) kind depth =
+    embed_fault site earlier own kind name via (find_template site.templates name)
 own_rule site earlier own (Statement-F.Link name via body) kind depth =
-    option_or (link_fault site own kind name via (find_template site.templates name)) (in_turn body kind (depth + 1))
+    option_or (link_fault site own kind name via (find_template site.templates name))
+    (in_turn body kind (depth + 1))
 
 -- its depth first
 abbrev pub rule : Parts → List TemplatePart → Word → Statement-F Rule → Rule
-rule site earlier own s kind depth = option_or (at_most 8 Nesting depth) (own_rule site earlier own s kind depth)
+rule site earlier own s kind depth = option_or (at_most MAX_NESTING Nesting depth) (own_rule site earlier own s kind depth)
 
 abbrev pub statement_fault : Parts → List TemplatePart → Word → Statement → Rule
 statement_fault site earlier own = fold-Statement Rule (rule site earlier own)
@@ -215,13 +223,13 @@ size = fold-Statement ℕ size_step
 abbrev pub body_size : List Statement → ℕ
 body_size body = sum_by (λ n. n) (map size body)
 
--- a number, or 4,097 where it is more than that
+-- a number, or one more than the most statements where it is more than these
 abbrev pub capped : ℕ → ℕ
-capped n = if nat_lt 4096 n then 4097 else n
+capped n = if nat_lt MAX_STATEMENTS n then MAX_STATEMENTS + 1 else n
 
 abbrev pub template_fault : Parts → List TemplatePart → TemplatePart → Fault
 template_fault site earlier t =
-    option_or (at_most 4096 Statements (body_size t.body))
+    option_or (at_most MAX_STATEMENTS Statements (body_size t.body))
     (body_fault site earlier t.name t.body t.kind 1)
 
 abbrev pub bodies_fault : Parts → Fault

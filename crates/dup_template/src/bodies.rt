@@ -1,6 +1,8 @@
-ghost use Rattle.std.specs.Prelude.{◌≡◌, ◌≤◌};
+// The rules on the statements of templates.
+ghost use Rattle.std.specs.Prelude.{◌≡◌, ◌≤◌, ◌+◌};
 ghost use Rattle.std.specs.Option.{option_copied};
 ghost use Rattle.std.specs.Result.{result_err};
+ghost use Rattle.dup_names.specs.declared.limits.TheConstants.{MAX_STATEMENTS};
 ghost use Rattle.dup_template.specs.Good as good;
 
 use crate::check::{
@@ -9,7 +11,7 @@ use crate::check::{
 use crate::refusal::{SiteRefusal, What};
 use crate::site::{KindPart, Parts, TemplatePart};
 use crate::statement::Statement;
-use dup_names::Name;
+use dup_names::{MAX_NESTING, MAX_STATEMENTS, Name};
 
 fn find_kind<'a>(kinds: &'a [KindPart], name: &Name) -> Option<&'a KindPart>
     ensures { option_copied result ≡ good.find_kind kinds.now name.now }
@@ -186,7 +188,7 @@ fn statement_holds(
 ) -> Checked
     ensures { result_err result ≡ good.statement_fault site.now earlier.now own.now statement.now kind.now depth }
 {
-    at_most(8, What::Nesting, depth)?;
+    at_most(MAX_NESTING, What::Nesting, depth)?;
     match statement {
         Statement::Say(_) => Ok(()),
         Statement::Nl => Ok(()),
@@ -238,15 +240,19 @@ fn body_holds(
 
 fn capped(n: usize) -> usize
     ensures value { result ≡ good.capped n }
-    ensures fits { result ≤ 4097 }
+    ensures fits { result ≤ MAX_STATEMENTS + 1 }
 {
-    if 4096 < n { 4097 } else { n }
+    if MAX_STATEMENTS < n {
+        MAX_STATEMENTS + 1
+    } else {
+        n
+    }
 }
 
 #[cycle(sizes)]
 fn size(statement: &Statement) -> usize
     ensures value { result ≡ good.capped (good.size statement.now) }
-    ensures fits { result ≤ 4097 }
+    ensures fits { result ≤ MAX_STATEMENTS + 1 }
 {
     match statement {
         Statement::Say(_) | Statement::Nl | Statement::Field(_) | Statement::Key => 1,
@@ -272,7 +278,7 @@ fn size(statement: &Statement) -> usize
 #[cycle(sizes)]
 fn body_size(body: &[Statement]) -> usize
     ensures value { result ≡ good.capped (good.body_size body.now) }
-    ensures fits { result ≤ 4097 }
+    ensures fits { result ≤ MAX_STATEMENTS + 1 }
 {
     let mut n = 0;
     for statement in body {
@@ -285,7 +291,7 @@ fn template_holds(site: &Parts, earlier: &[TemplatePart], template: &TemplatePar
     ensures { result_err result ≡ good.template_fault site.now earlier.now template.now }
 {
     let body = template.body.items();
-    at_most(4096, What::Statements, body_size(body))?;
+    at_most(MAX_STATEMENTS, What::Statements, body_size(body))?;
     body_holds(site, earlier, &template.name, body, &template.kind, 1)
 }
 

@@ -1,3 +1,4 @@
+// The rules on kinds, on heads of templates and on page declarations.
 ghost use Rattle.std.specs.Prelude.{◌≡◌, Some, [], map, ◌≤◌, OnOk};
 ghost use Rattle.std.specs.List.{list_any};
 ghost use Rattle.std.specs.Option.{option_copied};
@@ -7,7 +8,7 @@ ghost use Rattle.dup_template.specs.Good as good;
 use crate::plain::Prefix;
 use crate::refusal::{SiteRefusal, What};
 use crate::site::{KindPart, PageRule, TemplatePart};
-use dup_names::{Key, Name, Path};
+use dup_names::{Key, MAX_FIELDS, MAX_KINDS, MAX_PAGE_RULES, MAX_TEMPLATES, Name, Path};
 
 pub(crate) type Checked = Result<(), SiteRefusal>;
 
@@ -53,7 +54,7 @@ fn new_names(names: &[Name]) -> Checked
 fn fields_fit(fields: &[Name]) -> Checked
     ensures { result_err result ≡ good.fields_fault fields.now }
 {
-    at_most(32, What::Fields, fields.len())?;
+    at_most(MAX_FIELDS, What::Fields, fields.len())?;
     new_names(fields)
 }
 
@@ -89,7 +90,7 @@ fn new_kinds(kinds: &[KindPart]) -> Checked
 pub(crate) fn kinds_fit(kinds: &[KindPart]) -> Checked
     ensures { result_err result ≡ good.kinds_fault kinds.now }
 {
-    at_most(64, What::Kinds, kinds.len())?;
+    at_most(MAX_KINDS, What::Kinds, kinds.len())?;
     new_kinds(kinds)
 }
 
@@ -140,7 +141,7 @@ fn new_heads(kinds: &[KindPart], templates: &[TemplatePart]) -> Checked
 pub(crate) fn heads_fit(kinds: &[KindPart], templates: &[TemplatePart]) -> Checked
     ensures { result_err result ≡ good.heads_fault kinds.now templates.now }
 {
-    at_most(256, What::Templates, templates.len())?;
+    at_most(MAX_TEMPLATES, What::Templates, templates.len())?;
     new_heads(kinds, templates)
 }
 
@@ -318,6 +319,6 @@ fn new_pages(templates: &[TemplatePart], rules: &[PageRule]) -> Checked
 pub(crate) fn pages_fit(templates: &[TemplatePart], rules: &[PageRule]) -> Checked
     ensures { result_err result ≡ good.pages_fault templates.now rules.now }
 {
-    at_most(256, What::Pages, rules.len())?;
+    at_most(MAX_PAGE_RULES, What::Pages, rules.len())?;
     new_pages(templates, rules)
 }

@@ -7,6 +7,7 @@
 
 mod bodies;
 mod check;
+mod numbers;
 mod paths;
 mod plain;
 mod refusal;

@@ -1,13 +1,12 @@
-ghost use Rattle.dup_names.specs.Words.{place};
-ghost use Rattle.std.specs.Prelude.{◌≡◌, Some, None, ◌++◌, ◌∷◌, ◌+◌, IfSome, OnSome, ◌≤◌, ◌<◌, length, IsTrue};
+// The path of an object's page, and the object of a path.
+ghost use Rattle.std.specs.Prelude.{◌≡◌, Some, ◌++◌, ◌∷◌, ◌+◌, IfSome, length, IsTrue};
 ghost use Rattle.std.specs.Option.{option_copied, option_map};
-ghost use Rattle.dup_template.specs.Good as good;
 ghost use Rattle.dup_template.specs.Paths as paths;
 ghost use Rattle.dup_names.specs.Grammar.{is_path as path_grammar};
 
 use crate::check::{behind, shown_by};
 use crate::plain::Prefix;
-use crate::site::{PageRule, Parts, Site, TemplatePart};
+use crate::site::{PageRule, Parts, Site};
 use dup_names::{Key, Name, Obj, Path};
 
 fn rule_of<'a>(rules: &'a [PageRule], name: &Name) -> Option<&'a PageRule>
@@ -159,21 +158,6 @@ fn first_shown(path: &Path, rules: &[PageRule]) -> Option<(Name, Option<Key>)>
         }
     }
     None
-}
-
-/// The place of the template with this name, or their number where there is none.
-pub(crate) fn place_of(templates: &[TemplatePart], name: &Name) -> usize
-    ensures value { result ≡ place name.now (good.template_names templates.now) }
-    ensures within { result ≤ length templates.now }
-{
-    let mut at = 0;
-    for template in templates {
-        if template.name == *name {
-            return at;
-        }
-        at += 1;
-    }
-    at
 }
 
 /// The object whose page is at a path; its row may be absent.

@@ -1,9 +1,11 @@
+// Texts of statements, and prefixes of families.
 ghost use Rattle.std.specs.Prelude.{◌≡◌, ◌↔◌, ◌≤◌, IsTrue, IfOk, IsSome, IfSome, length, IsUtf8};
 ghost use Rattle.std.specs.List.{list_all};
-ghost use Rattle.dup_template.specs.Texts.{is_line_byte as line_byte_grammar, is_plain as plain_grammar, is_prefix as prefix_grammar};
+ghost use Rattle.dup_template.specs.Texts.{is_line_byte as line_byte_grammar, is_plain as plain_grammar};
+ghost use Rattle.dup_template.specs.Texts.{is_prefix as prefix_grammar};
 ghost use Rattle.dup_names.specs.Grammar.{is_path as path_grammar};
 
-use dup_names::{Bytes, NoMemory, Path};
+use dup_names::{Bytes, MAX_PREFIX_BYTES, MAX_TEXT_BYTES, NoMemory, Path};
 use std::alloc::Global;
 use std::marker::Model;
 use std::str;
@@ -42,12 +44,13 @@ fn are_line_bytes(bytes: &[u8]) -> bool
 fn is_plain(bytes: &[u8]) -> bool
     ensures { result ≡ plain_grammar bytes.now }
 {
-    1 <= bytes.len() && are_line_bytes(bytes) && bytes.len() <= 4096
+    1 <= bytes.len() && are_line_bytes(bytes) && bytes.len() <= MAX_TEXT_BYTES
 }
 
 impl Plain {
     pub fn read(alloc: Global, bytes: &[u8]) -> Result<Option<Plain>, NoMemory>
-        ensures some { IfOk result (λ read. IsSome read ↔ (IsTrue (plain_grammar bytes.now) × IsUtf8 bytes.now)) }
+        ensures some { IfOk result (λ read.
+            IsSome read ↔ (IsTrue (plain_grammar bytes.now) × IsUtf8 bytes.now)) }
         ensures value { IfOk result (λ read. IfSome read (λ text. text ≡ bytes.now)) }
     {
         if !is_plain(bytes) || str::from_utf8(bytes).is_err() {
@@ -91,7 +94,7 @@ impl Prefix {
         ensures value { IfSome result (λ prefix. prefix ≡ path) }
     {
         let len = path.bytes().len();
-        if len < 2 || 120 < len {
+        if len < 2 || MAX_PREFIX_BYTES < len {
             return None;
         }
         Some(Prefix { path })

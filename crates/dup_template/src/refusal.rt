@@ -1,3 +1,4 @@
+// What sites and their texts are refused for.
 ghost use Rattle.std.specs.Prelude.{◌≡◌};
 
 use dup_names::{Name, NoMemory, Path};

@@ -1,17 +1,19 @@
+// Sites: the parts that a text says, and those that break no rule.
 ghost use Rattle.std.specs.Prelude.{◌≡◌, ◌≤◌, length, IfOk};
 ghost use Rattle.std.specs.List.{slice_get};
 ghost use Rattle.dup_names.specs.Words.{place};
+ghost use Rattle.dup_names.specs.declared.limits.TheConstants.{MAX_FIELDS, MAX_KINDS, MAX_PAGE_RULES, MAX_TEMPLATES};
 ghost use Rattle.dup_template.specs.Good as good;
 ghost use Rattle.std.specs.Result.{result_err};
 
 use crate::bodies::bodies_hold;
 use crate::check::{heads_fit, kinds_fit, pages_fit};
-use crate::paths::place_of;
+use crate::numbers::{kind_place, template_place};
 use crate::plain::Prefix;
 use crate::refusal::SiteRefusal;
 use crate::statement::Body;
 use dup_lists::Listed;
-use dup_names::{Name, Path};
+use dup_names::{Name, Path, place_of};
 use std::marker::Model;
 
 /// A kind of records: its name, and the names of its fields in order.
@@ -92,7 +94,7 @@ impl Site {
     /// The kinds in order; a kind's number is its place, from 0.
     pub fn kinds(&self) -> &[KindPart]
         ensures value { result.now ≡ self.now.kinds }
-        ensures within { length result.now ≤ 64 }
+        ensures within { length result.now ≤ MAX_KINDS }
     {
         self.parts.kinds.items()
     }
@@ -100,7 +102,7 @@ impl Site {
     /// The fields of a kind in order; none where the kind isn't there.
     pub fn fields(&self, kind: u16) -> &[Name]
         ensures value { result.now ≡ good.fields_of (slice_get self.now.kinds kind) }
-        ensures within { length result.now ≤ 32 }
+        ensures within { length result.now ≤ MAX_FIELDS }
     {
         match self.parts.kinds.items().get(usize::from(kind)) {
             None => &[],
@@ -111,7 +113,7 @@ impl Site {
     /// The templates in order; a template's number is its place, from 0.
     pub fn templates(&self) -> &[TemplatePart]
         ensures value { result.now ≡ self.now.templates }
-        ensures within { length result.now ≤ 256 }
+        ensures within { length result.now ≤ MAX_TEMPLATES }
     {
         self.parts.templates.items()
     }
@@ -121,13 +123,29 @@ impl Site {
     pub fn template_number(&self, name: &Name) -> u16
         ensures { result ≡ place name.now (good.template_names self.now.templates) }
     {
-        place_of(self.templates(), name) as u16
+        template_place(self.templates(), name) as u16
+    }
+
+    /// The number of the kind with this name, or the number of kinds where there is none. It walks
+    /// at most 64 kinds.
+    pub fn kind_number(&self, name: &Name) -> u16
+        ensures { result ≡ place name.now (good.kind_names self.now.kinds) }
+    {
+        kind_place(self.kinds(), name) as u16
+    }
+
+    /// The number of a kind's field with this name, or the number of its fields where there is
+    /// none. It walks at most 32 fields.
+    pub fn field_number(&self, kind: u16, name: &Name) -> u16
+        ensures { result ≡ place name.now (good.fields_of (slice_get self.now.kinds kind)) }
+    {
+        place_of(self.fields(kind), name) as u16
     }
 
     /// The declarations of pages in order.
     pub fn page_rules(&self) -> &[PageRule]
         ensures value { result.now ≡ self.now.pages }
-        ensures within { length result.now ≤ 256 }
+        ensures within { length result.now ≤ MAX_PAGE_RULES }
     {
         self.parts.pages.items()
     }

@@ -1,3 +1,4 @@
+// The statements of templates.
 use crate::plain::Plain;
 use dup_lists::Listed;
 use dup_names::Name;

@@ -17,3 +17,4 @@ pub mod SinglePages
 pub mod MachineBundles
 pub mod MachineSteps
 pub mod MachineScripts
+pub mod ScriptRuns

@@ -23,7 +23,8 @@ use Rattle.dup_transcript.specs.MachinePlays.Settles.{at_once, by_work}
 use Rattle.dup_model.specs.Needs.{changed}
 use Rattle.dup_machine.specs.Nodes.{node_made, requested, with_node}
 use Rattle.dup_model.specs.Pages.{Target, live}
-use Rattle.dup_machine.specs.Press.{commit_told, published_by, target_of, version_of}
+use Rattle.dup_machine.specs.Press.{published_by, target_of}
+use Rattle.dup_machine.specs.Presses.{commit_told, version_of}
 use Rattle.dup_machine.specs.Run.{run, step}
 use Rattle.dup_machine.specs.Status.{NothingPending}
 use Rattle.dup_machine.specs.Settle.{IsPublished, IsSettled, counts_of, publishes, settling}
@@ -37,7 +38,7 @@ use Rattle.dup_machine.specs.World.Ended.{Report}
 use Rattle.dup_machine.specs.World.Event.{Begin, Comes, Node, Publish, Request}
 use Rattle.dup_machine.specs.World.Told.{Begins, Finished, NodeMade, NodeTaken, NoNode, NothingChanged, Published}
 use Rattle.dup_transcript.specs.declared.command.Command.TheVariants as command
-use Rattle.dup_model.proofs.Bundling.{bundle_is_none}
+use Rattle.dup_model.proofs.BundleFacts.{bundle_is_none}
 use Rattle.dup_machine.proofs.Pending.{last_target}
 use Rattle.dup_machine.proofs.Publishing.{publish_ends}
 use Rattle.dup_transcript.proofs.Reports.{begins_nothing, none_reported, nothing_new, report_is, settle_counts, target_case, told_once}

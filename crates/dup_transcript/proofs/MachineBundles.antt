@@ -19,7 +19,8 @@ use Rattle.dup_model.specs.Journal.{Limits}
 use Rattle.dup_transcript.specs.MachinePlays.{LastTold}
 use Rattle.dup_model.specs.Needs.{needs}
 use Rattle.dup_model.specs.Pages.{Target}
-use Rattle.dup_machine.specs.Press.{published_by, target_of, version_of}
+use Rattle.dup_machine.specs.Press.{published_by, target_of}
+use Rattle.dup_machine.specs.Presses.{version_of}
 use Rattle.dup_machine.specs.Run.{step}
 use Rattle.dup_transcript.specs.Sessions.{Published, shows, with_page, with_pages}
 use Rattle.dup_machine.specs.Settle.{publishes}

@@ -21,6 +21,7 @@ use Rattle.dup_model.specs.Journal.{Limits, refused_behind, commit_bytes, journa
 use Rattle.dup_transcript.specs.MachinePlays.{MachinePlays, command_bytes, limits_for}
 use Rattle.dup_transcript.specs.MachinePlays.Settles.{at_once, by_work}
 use Rattle.dup_model.specs.Pages.{live}
+use Rattle.dup_machine.proofs.WorldSteps.{begun_next}
 use Rattle.dup_machine.specs.Press.{begun, opened}
 use Rattle.dup_machine.specs.Run.{run, step}
 use Rattle.dup_transcript.specs.Sessions.{IsPutting, PlaysCommands, SessionsAreTheMachines, Session, after_command, first_session, has_node, play_answer, settle_text, settled, settled_edition}
@@ -109,6 +110,7 @@ module _ (site : Parts) (limits : Limits) (form : is_first_form site ≡ true) w
   turn_at_once s w number f last =
       let goes : step site limits w Begin ≡ told (Begins (Nothing (length w.commits))) w =
       (λ i. begun site (f.at.idle i) (last i) w)
+      ∙ begun_next site (length w.commits) w
       ∙ ap (λ (b : Bool). if b then told (Begins (Nothing (length w.commits))) w else opened site (work_from (version site w.commits (length w.commits)) (length w.commits) (content site w.commits)) w) ((Decides-eqb (length w.commits) (length w.commits)).1 refl) in
       let a : IsAt s.commits (Some (length s.commits)) w.nodes (session_at site limits form s) (told (Begins (Nothing (length w.commits))) w) = record {
         commits = f.at.commits;

@@ -29,7 +29,8 @@ use Rattle.dup_model.specs.Journal.{Limits, refused_behind, commit_refusal, jour
 use Rattle.dup_transcript.specs.MachinePlays.{IsTold, StandsFor}
 use Rattle.dup_machine.specs.Nodes.{node_made, requested, with_node}
 use Rattle.dup_model.specs.Pages.{target}
-use Rattle.dup_machine.specs.Press.{commit_told, committed, target_of}
+use Rattle.dup_machine.specs.Press.{committed, target_of}
+use Rattle.dup_machine.specs.Presses.{commit_told}
 use Rattle.dup_machine.specs.Run.{step}
 use Rattle.dup_transcript.specs.Sessions.{IsPutting, Published, Session, after_command, get_text, has_node, page_text, play_answer, settled, settled_edition, whole_site, with_pages}
 use Rattle.dup_model.specs.Show.{show}

@@ -6,7 +6,7 @@ use Rattle.dup_names.specs.Words.{Path}
 use Rattle.dup_names.specs.declared.value.Look.{Look}
 use Rattle.dup_model.specs.Versions.{content}
 use Rattle.dup_model.specs.Editions.{Page, edition}
-use Rattle.dup_transcript.specs.NextRows.{chain, page_one, page_two, target_of, look_of, one_first, then_two, one_alone, LinkNeedsPageRow, both, one_goes, linked_page, linking_page, last_bundle, LinkerChangesRow}
+use Rattle.dup_transcript.specs.NextRows.{chain, page_one, page_two, target_of, look_of, one_first, then_two, one_alone, LinkNeedsPageRow, both, one_goes, linked_page, linking_page, last_bundle, LinkerChangesRow, vanishing}
 use Rattle.dup_model.proofs.Computed.{entries_target, listed_target, entries_empty, bundle_listed, bundle_of_listed, listed_bundle_of, entries_with}
 use Rattle.dup_model.proofs.Equations.{marks-Say, marks-Field, marks-Link-via}
 
@@ -44,7 +44,7 @@ pub link_needs_page : LinkNeedsPageRow
 link_needs_page = record {
   first = bundle_listed (target_of (one_first ∷ [])) ((page_one, look_one) ∷ []) first_target fin.empty [] (entries_empty Page);
   first_puts = ap (λ b. b.puts) one_alone_is;
-  together = bundle_listed (target_of (one_first ∷ (then_two ∷ []))) second_list second_target (edition (one_alone ∷ [])) ((page_one, one_page) ∷ []) first_edition;
+  second = bundle_listed (target_of (one_first ∷ (then_two ∷ []))) second_list second_target (edition (one_alone ∷ [])) ((page_one, one_page) ∷ []) first_edition;
 }
 
 -- the linked page, and the page that links to it
@@ -78,8 +78,8 @@ linked_is = bundle_of_listed (target_of (both ∷ [])) both_list both_target 1 (
 linking_is : linking_page ≡ listed_bundle_of both_list 1 [] (page_two ∷ [])
 linking_is = bundle_of_listed (target_of (both ∷ [])) both_list both_target 1 [] (page_two ∷ [])
 
-last_is : last_bundle ≡ listed_bundle_of left_list 2 (one_goes ∷ []) (page_one ∷ (page_two ∷ []))
-last_is = bundle_of_listed (target_of (both ∷ (one_goes ∷ []))) left_list left_target 2 (one_goes ∷ []) (page_one ∷ (page_two ∷ []))
+last_is : last_bundle ≡ listed_bundle_of left_list 2 (one_goes ∷ []) (page_two ∷ [])
+last_is = bundle_of_listed (target_of (both ∷ (one_goes ∷ []))) left_list left_target 2 (one_goes ∷ []) (page_two ∷ [])
 
 abbrev linked_entry : Page
 linked_entry = record { path = page_one; version = 1; look = linked_look }
@@ -97,13 +97,29 @@ two_entries : fin.entries (edition (linked_page ∷ (linking_page ∷ []))) ≡ 
 two_entries =
     entries_with (linked_page ∷ []) linking_page (listed_bundle_of both_list 1 [] (page_two ∷ [])) page_two linking_entry ((page_one, linked_entry) ∷ []) linking_is refl one_entry
 
+abbrev left_entry : Page
+left_entry = record { path = page_two; version = 2; look = look_of (codes "e2") (codes "Bnext") [] }
+
+abbrev left_two : List (Path × Page)
+left_two = (page_one, linked_entry) ∷ ((page_two, left_entry) ∷ [])
+
+left_entries : fin.entries (edition (linked_page ∷ (linking_page ∷ (last_bundle ∷ [])))) ≡ left_two
+left_entries =
+    entries_with (linked_page ∷ (linking_page ∷ [])) last_bundle (listed_bundle_of left_list 2 (one_goes ∷ []) (page_two ∷ [])) page_two left_entry two_list last_is refl two_entries
+
+vanishing_is : vanishing ≡ listed_bundle_of left_list 2 [] (page_one ∷ [])
+vanishing_is = bundle_of_listed (target_of (both ∷ (one_goes ∷ []))) left_list left_target 2 [] (page_one ∷ [])
+
 pub linker_changes : LinkerChangesRow
 linker_changes = record {
   first = bundle_listed (target_of (both ∷ [])) both_list both_target fin.empty [] (entries_empty Page);
   second = bundle_listed (target_of (both ∷ [])) both_list both_target (edition (linked_page ∷ [])) ((page_one, linked_entry) ∷ []) one_entry;
   second_puts = ap (λ b. b.puts) linking_is;
   rest = bundle_listed (target_of (both ∷ [])) both_list both_target (edition (linked_page ∷ (linking_page ∷ []))) two_list two_entries;
-  together = bundle_listed (target_of (both ∷ (one_goes ∷ []))) left_list left_target (edition (linked_page ∷ (linking_page ∷ []))) two_list two_entries;
+  before = bundle_listed (target_of (both ∷ (one_goes ∷ []))) left_list left_target (edition (linked_page ∷ (linking_page ∷ []))) two_list two_entries;
   puts = ap (λ b. b.puts) last_is;
   drops = ap (λ b. b.drops) last_is;
+  last = bundle_listed (target_of (both ∷ (one_goes ∷ []))) left_list left_target (edition (linked_page ∷ (linking_page ∷ (last_bundle ∷ [])))) left_two left_entries;
+  last_puts = ap (λ b. b.puts) vanishing_is;
+  last_drops = ap (λ b. b.drops) vanishing_is;
 }

@@ -13,6 +13,7 @@ use Rattle.dup_model.specs.Content.{start}
 use Rattle.dup_model.specs.Embeddings.{EmbedsEarlier}
 use Rattle.dup_model.specs.Journal.{Limits}
 use Rattle.dup_transcript.specs.MachinePlays.{IsReady, LastTold}
+use Rattle.dup_machine.proofs.WorldSteps.{begun_next}
 use Rattle.dup_machine.specs.Press.{begun, finished, finished_by, handed, joined_by, opened, put_from, at}
 use Rattle.dup_machine.specs.Press.{joined as join_step}
 use Rattle.dup_machine.specs.Run.{step}
@@ -51,9 +52,9 @@ module _ (site : Parts) (limits : Limits) (w0 : World) where
   joins_waiting zero v work x xs s waits = s
   joins_waiting (suc m) v work x xs s waits =
       let there : at site v work.version ≡ end site limits w0 = at_last site limits w0 v work s in
-      let goes : step site limits v Join ≡ joined_by work (x ∷ xs) (unjoined (end site limits w0) work) (level (end site limits w0) work) v =
-      (λ i. join_step site (s.has i) v) ∙ (λ i. joined_by work (waiting (there i) work.done) (unjoined (there i) work) (level (there i) work) v)
-      ∙ (λ i. joined_by work (waits i) (unjoined (end site limits w0) work) (level (end site limits w0) work) v) in
+      let goes : step site limits v Join ≡ joined_by site work (x ∷ xs) (unjoined (end site limits w0) work) (level (end site limits w0) work) v =
+      (λ i. join_step site (s.has i) v) ∙ (λ i. joined_by site work (waiting (there i) work.done) (unjoined (there i) work) (level (there i) work) v)
+      ∙ (λ i. joined_by site work (waits i) (unjoined (end site limits w0) work) (level (end site limits w0) work) v) in
       joins_waiting m (step site limits v Join) work x xs
       (subst (λ u. Stands w0 u work) (sym goes) (record { commits = s.commits; target = s.target; log = s.log; nodes = s.nodes; has = s.has; slot = s.slot; here = s.here })) waits
 
@@ -123,6 +124,7 @@ module _ (site : Parts) (limits : Limits) (w : World) (earlier : EmbedsEarlier (
   pub begins_nothing : w.target ≡ Some (length w.commits) → step site limits w Begin ≡ told (Begins (Nothing (length w.commits))) w
   begins_nothing last =
       (λ i. begun site (idle i) (last i) w)
+      ∙ begun_next site (length w.commits) w
       ∙ ap (λ (b : Bool). if b then told (Begins (Nothing (length w.commits))) w else opened site (work_from (at site w (length w.commits)) (length w.commits) (content site w.commits)) w) ((Decides-eqb (length w.commits) (length w.commits)).1 refl)
 
   -- where `begin` has nothing to begin, nothing is reported
@@ -157,8 +159,8 @@ module _ (site : Parts) (limits : Limits) (w : World) (earlier : EmbedsEarlier (
     where
       differs : (work : Work) → step site limits w Begin ≡ opened site work w → ⊥
       differs work goes =
-          let e : Begins (Begun.Opened work.version (length (waiting (at site w work.version) work.done))) ≡ Begins (Nothing v) =
-          told_once (step site limits w Begin) (Begins (Begun.Opened work.version (length (waiting (at site w work.version) work.done)))) (Begins (Nothing v)) (w.replies, ap (λ u. u.replies) goes) tells in
+          let e : Begins (Begun.Opened work.version (length (waiting (content site w.commits) work.done))) ≡ Begins (Nothing v) =
+          told_once (step site limits w Begin) (Begins (Begun.Opened work.version (length (waiting (content site w.commits) work.done)))) (Begins (Nothing v)) (w.replies, ap (λ u. u.replies) goes) tells in
           absurd (cc)
 
       by_test : (a : ℕ) → w.target ≡ Some a → (b : Bool) → (a == length w.commits) ≡ b → (w.target ≡ Some (length w.commits)) × (v ≡ length w.commits)
@@ -166,11 +168,13 @@ module _ (site : Parts) (limits : Limits) (w : World) (earlier : EmbedsEarlier (
           let n : a ≡ length w.commits = (Decides-eqb a (length w.commits)).0 same in
           let goes : step site limits w Begin ≡ told (Begins (Nothing a)) w =
           (λ i. begun site (idle i) (is i) w)
+          ∙ begun_next site a w
           ∙ ap (λ (b : Bool). if b then told (Begins (Nothing a)) w else opened site (work_from (at site w a) (length w.commits) (content site w.commits)) w) same in
           let e : Begins (Nothing a) ≡ Begins (Nothing v) = told_once (step site limits w Begin) (Begins (Nothing a)) (Begins (Nothing v)) (w.replies, ap (λ u. u.replies) goes) tells in
           (is ∙ ap Some n, cc)
       by_test a is false other =
           absurd (differs (work_from (at site w a) (length w.commits) (content site w.commits)) ((λ i. begun site (idle i) (is i) w)
+          ∙ begun_next site a w
           ∙ ap (λ (b : Bool). if b then told (Begins (Nothing a)) w else opened site (work_from (at site w a) (length w.commits) (content site w.commits)) w) other))
 
       by_target : (o : Option ℕ) → w.target ≡ o → (w.target ≡ Some (length w.commits)) × (v ≡ length w.commits)

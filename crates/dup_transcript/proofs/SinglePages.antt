@@ -1,26 +1,26 @@
 -- Where no page needs another, each changed page is a bundle of its own.
 use Rattle.std.proofs.Common.{◌≡◌, ℕ, zero, Bool, true, false, not, cond, ◌||◌, ◌&&◌, refl, sym, ap, ◌∙◌, List, [], ◌∷◌, ◌++◌, map}
 use Rattle.std.specs.Prelude.{Option, Some, None, is_some, bytes_eq, if◌then◌else◌}
-use Rattle.std.specs.List.{filter, list_any, AllByRecursion}
+use Rattle.std.specs.List.{filter, find, list_all, list_any, AllByRecursion}
 use Rattle.std.specs.Option.{is_none, option_eq, option_map}
 use Rattle.std.specs.Ordering.{eq_by_cmp, is_lt}
 use Rattle.std.specs.Cmp.Lexicographic.{nat_list_cmp_total}
 use Rattle.std.specs.FinMap as fin
 use Rattle.std.specs.FinMap.Entries.{is_some-find, is_sorted, below_all}
 use Rattle.std.proofs.Math.Dec.{T}
-use Rattle.std.proofs.lemmas.Bool.{true≢false}
+use Rattle.std.proofs.lemmas.Bool.{true≢false, and_from}
 use Rattle.std.proofs.lemmas.Slice.Eq.{bytes_eq-Decides}
 use Rattle.dup_names.specs.Order.{text_cmp}
 use Rattle.dup_names.specs.Words.{Word, Path}
 use Rattle.dup_names.specs.declared.value.Look.{Look}
 use Rattle.dup_template.specs.declared.site.Parts.{Parts}
-use Rattle.dup_model.specs.Bundles.{bundle_from, changed_paths, paths_of, reached}
+use Rattle.dup_model.specs.Bundles.{bundle_from, changed_paths, is_knot, paths_of, reached}
 use Rattle.dup_model.specs.Commits.{Commit}
 use Rattle.dup_model.specs.Editions.{Edition, Page, absorb, bundle_of, has, looks, target_looks}
 use Rattle.dup_model.specs.Needs.{Looks, changed, clash, links, needs, same_look}
 use Rattle.dup_model.specs.Pages.{Target}
 use Rattle.dup_transcript.specs.Sessions.{shows}
-use Rattle.dup_model.proofs.Bundling.{firsts, has_append}
+use Rattle.dup_model.proofs.ChangedPaths.{firsts, has_append}
 use Rattle.dup_transcript.specs.RowPages.{plain_look, row_object, row_path}
 
 -- a look that may stand at this path: a row's, which embeds nothing and has no links
@@ -98,9 +98,18 @@ module _ (need : Path → Path → Bool) (none : (p q : Path) → need p q ≡ f
   filter_none rs p (q ∷ ps) h =
       ap (λ (b : Bool). if b then q ∷ filter (reached need rs p) ps else filter (reached need rs p) ps) (reached_same rs p q ∙ h.0) ∙ filter_none rs p ps h.1
 
+  knot_alone : (rs : List Path) (p : Path) (ps : List Path) → list_all (λ q. not (reached need rs p q) || reached need rs q p) ps ≡ true
+  knot_alone rs p [] = refl
+  knot_alone rs p (q ∷ ps) = and_from _ _ (rw (reached_same rs p q, reached_same rs q p) (both (bytes_eq p q) refl)) (knot_alone rs p ps)
+    where
+      both : (b : Bool) → bytes_eq p q ≡ b → (not b || bytes_eq q p) ≡ true
+      both true is = (bytes_eq-Decides q p).1 (sym (same_bytes p q is))
+      both false is = refl
+
   pub first_alone : (p : Path) (ps : List Path) → AllByRecursion (λ q. bytes_eq p q ≡ false) ps → bundle_from need (p ∷ ps) ≡ Some (p ∷ [])
   first_alone p ps h =
-      ap (λ (b : Bool). Some (if b then p ∷ filter (reached need (p ∷ ps) p) ps else filter (reached need (p ∷ ps) p) ps)) (reached_same (p ∷ ps) p p ∙ (bytes_eq-Decides p p).1 refl)
+      ap (λ (b : Bool). option_map (λ r. filter (reached need (p ∷ ps) r) (p ∷ ps)) (if b then Some p else find (is_knot need (p ∷ ps)) ps)) (knot_alone (p ∷ ps) p (p ∷ ps))
+      ∙ ap (λ (b : Bool). Some (if b then p ∷ filter (reached need (p ∷ ps) p) ps else filter (reached need (p ∷ ps) p) ps)) (reached_same (p ∷ ps) p p ∙ (bytes_eq-Decides p p).1 refl)
       ∙ ap (λ (l : List Path). Some (p ∷ l)) (filter_none (p ∷ ps) p ps h)
 
 -- pages in path order, each path once

@@ -18,3 +18,4 @@ pub mod WrittenLines
 pub mod ScriptRows
 pub mod RowPages
 pub mod RowCounts
+pub mod ScriptRuns

@@ -53,7 +53,7 @@ abbrev pub one_alone : Bundle
 one_alone = bundle_of (target_of (one_first ∷ [])) 1 (one_first ∷ []) (page_one ∷ [])
 
 -- the first page goes out alone, without a link; then it needs the second, which it links to and which the
--- edition lacks
+-- edition lacks: so the second goes out before it
 pub record LinkNeedsPageRow : Type 0 where
   pub first : bundle (edition []) (target_of (one_first ∷ [])) ≡ Some (page_one ∷ [])
   pub first_puts : one_alone.puts ≡ record {
@@ -61,8 +61,7 @@ pub record LinkNeedsPageRow : Type 0 where
     version = 1;
     look = look_of (codes "e1") (codes "Anext") [];
   } ∷ []
-  pub together : bundle (edition (one_alone ∷ [])) (target_of (one_first ∷ (then_two ∷ []))) ≡ Some (page_one
-      ∷ (page_two ∷ []))
+  pub second : bundle (edition (one_alone ∷ [])) (target_of (one_first ∷ (then_two ∷ []))) ≡ Some (page_two ∷ [])
 
 -- e2 names e1 as its next one, and then e1 goes
 abbrev pub both : Commit
@@ -80,9 +79,12 @@ abbrev pub linking_page : Bundle
 linking_page = bundle_of (target_of (both ∷ [])) 1 [] (page_two ∷ [])
 
 abbrev pub last_bundle : Bundle
-last_bundle = bundle_of (target_of (both ∷ (one_goes ∷ []))) 2 (one_goes ∷ []) (page_one ∷ (page_two ∷ []))
+last_bundle = bundle_of (target_of (both ∷ (one_goes ∷ []))) 2 (one_goes ∷ []) (page_two ∷ [])
 
--- the linked page goes out first; when it vanishes, the page that links to it changes in the same bundle
+abbrev pub vanishing : Bundle
+vanishing = bundle_of (target_of (both ∷ (one_goes ∷ []))) 2 [] (page_one ∷ [])
+
+-- the linked page goes out first; when it vanishes, the page that links to it changes in a bundle before
 pub record LinkerChangesRow : Type 0 where
   pub first : bundle (edition []) (target_of (both ∷ [])) ≡ Some (page_one ∷ [])
   pub second : bundle (edition (linked_page ∷ [])) (target_of (both ∷ [])) ≡ Some (page_two ∷ [])
@@ -92,11 +94,15 @@ pub record LinkerChangesRow : Type 0 where
     look = look_of (codes "e2") (codes "B<a href=\"/event/e1\">next</a>") (page_one ∷ []);
   } ∷ []
   pub rest : bundle (edition (linked_page ∷ (linking_page ∷ []))) (target_of (both ∷ [])) ≡ None
-  pub together : bundle (edition (linked_page ∷ (linking_page ∷ []))) (target_of (both
-      ∷ (one_goes ∷ []))) ≡ Some (page_one ∷ (page_two ∷ []))
+  pub before : bundle (edition (linked_page ∷ (linking_page ∷ []))) (target_of (both ∷ (one_goes ∷ [])))
+      ≡ Some (page_two ∷ [])
   pub puts : last_bundle.puts ≡ record {
     path = page_two;
     version = 2;
     look = look_of (codes "e2") (codes "Bnext") [];
   } ∷ []
-  pub drops : last_bundle.drops ≡ page_one ∷ []
+  pub drops : last_bundle.drops ≡ []
+  pub last : bundle (edition (linked_page ∷ (linking_page ∷ (last_bundle ∷ [])))) (target_of (both ∷ (one_goes ∷ [])))
+      ≡ Some (page_one ∷ [])
+  pub last_puts : vanishing.puts ≡ []
+  pub last_drops : vanishing.drops ≡ page_one ∷ []

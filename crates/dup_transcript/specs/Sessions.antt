@@ -21,7 +21,7 @@ use Rattle.dup_transcript.specs.MachinePlays.{MachinePlays, limits_for}
 use Rattle.dup_transcript.specs.Transcript.{commands, too_long}
 use Rattle.dup_machine.specs.World.Told.{Absent, Ahead, Found, NodeMade, NodeTaken, NoNode}
 use Rattle.dup_model.specs.Answers.How.{MissUnkept}
-use Rattle.dup_machine.specs.Press.{commit_told}
+use Rattle.dup_machine.specs.Presses.{commit_told}
 use Rattle.dup_transcript.specs.Texts.{told_text, settled_text, not_built_text}
 use Rattle.dup_transcript.specs.Commands.{Command, is_one_put}
 use Rattle.dup_transcript.specs.declared.command.Command.TheVariants as command

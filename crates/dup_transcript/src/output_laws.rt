@@ -10,6 +10,7 @@ ghost use Rattle.dup_transcript.specs.MachinePlays.{
 ghost use Rattle.dup_transcript.specs.Numbers.{NumbersAreDecimal};
 ghost use Rattle.dup_transcript.specs.RowCounts.{RowsAreCounted};
 ghost use Rattle.dup_transcript.specs.RowPages.{RowsHavePages};
+ghost use Rattle.dup_transcript.specs.ScriptRuns.{TranscriptsAreRuns};
 ghost use Rattle.dup_transcript.specs.Sessions.{SessionsAreTheMachines};
 ghost use Rattle.dup_transcript.specs.Transcript.{TranscriptsAreOne, TranscriptsExist};
 ghost use Rattle.dup_transcript.specs.WrittenLines.{LinesAreFound, LinesAreRead};
@@ -34,6 +35,11 @@ pub fn commands_law()
 pub fn transcripts_law()
     ensures exist { TranscriptsExist }
     ensures one { TranscriptsAreOne }
+{}
+
+/// What is written for a script is what the machine replies to events, and of their run the headline holds.
+pub fn runs_of_scripts_law()
+    ensures { TranscriptsAreRuns }
 {}
 
 /// The machine answers each list of commands, and in one way. No work is open between two commands, and once

@@ -1,4 +1,4 @@
-use Rattle.dup_names.proofs.Same.{Look-Decides}
+use Rattle.dup_names.proofs.DerivedEquality.{Look-Decides}
 use Rattle.dup_names.proofs.laws.looks_are_equal.Goals as goal
 
 pub returns : goal.returns

@@ -1,4 +1,4 @@
-use Rattle.dup_names.proofs.Same.{Skeleton-Decides}
+use Rattle.dup_names.proofs.DerivedEquality.{Skeleton-Decides}
 use Rattle.dup_names.proofs.laws.skeletons_are_equal.Goals as goal
 
 pub returns : goal.returns

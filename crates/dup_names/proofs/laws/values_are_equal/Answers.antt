@@ -1,4 +1,4 @@
-use Rattle.dup_names.proofs.Same.{Value-Decides}
+use Rattle.dup_names.proofs.DerivedEquality.{Value-Decides}
 use Rattle.dup_names.proofs.laws.values_are_equal.Goals as goal
 
 pub returns : goal.returns

@@ -1,5 +1,5 @@
 use Rattle.std.proofs.Common.{sym, ◌∙◌}
-use Rattle.dup_site.proofs.Names.{read_more}
+use Rattle.dup_site.proofs.NamesRead.{read_more}
 use Rattle.dup_site.proofs.forms.names.Goals as goal
 
 pub loop-word-preserved : goal.loop-word-preserved

@@ -2,7 +2,7 @@ use Rattle.std.proofs.Common.{ap, map, arith}
 use Rattle.dup_site.specs.Drafted.{keeping_of}
 use Rattle.dup_site.specs.Spelling.{line_of, text_says}
 use Rattle.dup_names.specs.Lines.{text_lines}
-use Rattle.dup_site.proofs.Lines.{next, bad, ends, no_lines, stands, stands_not}
+use Rattle.dup_site.proofs.KeepsSaid.{next, bad, ends, no_lines, stands, stands_not}
 use Rattle.dup_site.proofs.reading.read_parts.Goals as goal
 
 pub returns-then-not-stands : goal.returns-then-not-stands

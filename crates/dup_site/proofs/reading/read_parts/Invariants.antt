@@ -2,7 +2,7 @@ use Rattle.std.proofs.Common.{length, ◌<◌, ◌≤◌, ◌+◌, map}
 use Rattle.dup_names.specs.Lines.{text_lines}
 use Rattle.dup_site.specs.Drafted.{keeping_of}
 use Rattle.dup_site.specs.Spelling.{line_of, text_says}
-use Rattle.dup_site.proofs.Lines.{Reading_on}
+use Rattle.dup_site.proofs.KeepsSaid.{Reading_on}
 use Rattle.dup_site.proofs.reading.read_parts.Given as goal
 
 abbrev pub invariant-loop-rest : goal.invariant-loop-rest

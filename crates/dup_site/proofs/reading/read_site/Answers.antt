@@ -2,7 +2,7 @@ use Rattle.std.proofs.Common.{ap, sym, ◌∙◌}
 use Rattle.std.specs.Prelude.{Ok}
 use Rattle.dup_template.specs.Good.{site_fault}
 use Rattle.dup_site.specs.Reads.{if_said, unless_broken}
-use Rattle.dup_site.proofs.Whole.{kept_fault, kept_good}
+use Rattle.dup_site.proofs.KeptBreaksSame.{kept_fault, kept_good}
 use Rattle.dup_site.proofs.reading.read_site.Goals as goal
 
 pub returns-in-Ok : goal.returns-in-Ok

@@ -1,6 +1,0 @@
-use Rattle.std.proofs.Common.{map}
-use Rattle.dup_model.proofs.Tables.{rising_at}
-use Rattle.dup_records.proofs.content.Content.rows_at.Goals as goal
-
-pub returns-clause-rising : goal.returns-clause-rising
-returns-clause-rising c = rw (c.table_at.ensures, c.deref.ensures.value) (rising_at (map (λ t. t.value) c.self.inside.tables.items) c.args.kind c.self.invariant.1)

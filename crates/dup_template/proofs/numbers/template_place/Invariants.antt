@@ -1,0 +1,8 @@
+use Rattle.std.proofs.Common.{◌≡◌, ◌+◌, drop}
+use Rattle.dup_names.specs.Words.{place}
+use Rattle.dup_template.specs.Good.{template_names}
+use Rattle.dup_template.proofs.numbers.template_place.Given as goal
+
+abbrev pub invariant-loop-index : goal.invariant-loop-index
+invariant-loop-index l =
+    l.index + place l.name (template_names (drop l.index l.templates)) ≡ place l.name (template_names l.templates)
