@@ -7,7 +7,8 @@ ghost use Rattle.dup_model.specs.Names.{field_at, fields_at, kind_at, kind_named
 ghost use Rattle.dup_model.specs.Names.{template_at};
 ghost use Rattle.dup_model.specs.Content.{IsOf, body_at, group, keys, row, start, table, text, value};
 ghost use Rattle.dup_model.specs.Commits.{blank, put_row, with_fields, with_table};
-ghost use Rattle.dup_model.specs.Tables.{IsRising};
+ghost use Rattle.dup_model.specs.Tables.{IsRising, TablesRise};
+ghost use Rattle.dup_records.specs.Fits.{HaveTexts, RowsFit};
 
 use crate::agreeing::{are_group, are_keys, is_answer, is_text};
 use crate::keys::{keys_of, keys_where};
@@ -39,6 +40,7 @@ impl Model for Content {
     ghost use Rattle.dup_model.specs.Content.{Content as Contents};
     ghost use Rattle.dup_model.specs.Frame.{frame_of, bodies_of};
     ghost use Rattle.dup_model.specs.Tables.{IsRising};
+    ghost use Rattle.dup_records.specs.Fits.{TablesFit};
 
     ghost Value = { Contents };
 
@@ -52,7 +54,8 @@ impl Model for Content {
 
     ghost invariant = { λ c.
         (length c.tables.items ≡ length c.site.value.kinds)
-        × AllByRecursion IsRising (map (λ t. t.value) c.tables.items) };
+        × AllByRecursion IsRising (map (λ t. t.value) c.tables.items)
+        × TablesFit (frame_of c.site.value) (map (λ t. t.value) c.tables.items) };
 }
 
 fn table_at(tables: &[Arc<Table, Global>], kind: usize) -> &[Entry]
@@ -210,8 +213,17 @@ impl Content {
     pub fn rows(&self, kind: u16) -> &[Entry]
         ensures value { result.now ≡ table self.now kind }
         ensures rising { IsRising result.now }
+        ensures fit { HaveTexts (length (fields_at self.now.frame kind)) result.now }
     {
         table_at(&self.tables, usize::from(kind))
+    }
+
+    /// What its rows keep: they stand in the order of their keys, and have a text for each field.
+    pub(crate) fn keeps_rows(&self)
+        ensures rising { TablesRise self.now }
+        ensures fit { RowsFit self.now }
+    {
+        let _tables = &self.tables;
     }
 
     /// The same content with these rows of a kind.
@@ -223,6 +235,7 @@ impl Content {
     ) -> Result<Content, NoMemory>
         requires kind { kind < length self.now.frame.kinds }
         requires rising { IsRising rows.items }
+        requires fit { HaveTexts (length (fields_at self.now.frame kind)) rows.items }
         ensures { IfOk result (λ made. made ≡ with_table self.now kind rows.items) }
     {
         let mut tables = shared_tables(alloc, &self.tables)?;

@@ -4,6 +4,7 @@
 mod agreeing;
 mod applying;
 mod change;
+mod changing;
 mod commit;
 mod content;
 mod keys;
@@ -12,10 +13,13 @@ mod rows;
 
 pub use applying::apply;
 pub use change::Change;
+pub use changing::changed;
 pub use commit::{Commit, Limits};
 pub use content::Content;
 pub use refusal::CommitRefusal;
 pub use rows::Entry;
 
+#[cfg(test)]
+mod changing_tests;
 #[cfg(test)]
 mod tests;

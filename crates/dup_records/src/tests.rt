@@ -34,7 +34,12 @@ fn results(alloc: Global) -> Result<Content, Fail> {
     Ok(content)
 }
 
-fn put(alloc: Global, kind: &str, row: &str, fields: &[(&str, &str)]) -> Result<Change, Fail> {
+pub(crate) fn put(
+    alloc: Global,
+    kind: &str,
+    row: &str,
+    fields: &[(&str, &str)],
+) -> Result<Change, Fail> {
     let mut named = Vec::new(alloc);
     for (field, text) in fields {
         let text = Text::read(alloc, text.as_bytes())?.ok_or("a text")?;
@@ -44,11 +49,11 @@ fn put(alloc: Global, kind: &str, row: &str, fields: &[(&str, &str)]) -> Result<
     Ok(change)
 }
 
-fn remove(kind: &str, row: &str) -> Result<Change, Fail> {
+pub(crate) fn remove(kind: &str, row: &str) -> Result<Change, Fail> {
     Ok(Change::remove(name(kind)?, key(row)?))
 }
 
-fn commit(changes: Vec<Change>) -> Result<Commit, Fail> {
+pub(crate) fn commit(changes: Vec<Change>) -> Result<Commit, Fail> {
     let commit = Commit::of(changes).ok_or("a commit")?;
     Ok(commit)
 }
@@ -62,7 +67,7 @@ fn puts(alloc: Global) -> Result<Vec<Change>, Fail> {
 }
 
 // The content after the puts, with the rows `r1` and `r2`.
-fn two_rows(alloc: Global) -> Result<Content, Fail> {
+pub(crate) fn two_rows(alloc: Global) -> Result<Content, Fail> {
     let empty = results(alloc)?;
     let first = commit(puts(alloc)?)?.copy(alloc)?;
     let content = apply(alloc, &empty, &first, Limits::default().rows)?;

@@ -1,8 +1,15 @@
 use Rattle.dup_model.proofs.Tables.{rising_put}
+use Rattle.dup_model.specs.Names.{fields_at}
+use Rattle.dup_records.proofs.Fits.{fit_with}
 use Rattle.dup_records.proofs.content.Content.with_put.Goals as goal
 
 pub with_rows-requires-clause-rising : goal.with_rows-requires-clause-rising
 with_rows-requires-clause-rising c = rw c.in_ok-made.ensures (rising_put _ _ c.rows-entries.ensures.rising)
+
+pub with_rows-requires-clause-fit : goal.with_rows-requires-clause-fit
+with_rows-requires-clause-fit c =
+    rw (c.in_ok-made.ensures, c.of.ensures, c.in_ok-set_fields.ensures, c.in_ok-texts.ensures, c.fields-names.ensures)
+    (fit_with (fields_at c.args.self.now.frame c.args.kind) c.args.fields.now c.args.key.now c.rows-entries.result.now c.rows-entries.ensures.fit)
 
 pub returns : goal.returns
 returns c =

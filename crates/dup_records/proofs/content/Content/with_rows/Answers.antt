@@ -1,5 +1,10 @@
-use Rattle.std.proofs.Common.{◌∙◌, ap, sym, length, length-set, map}
+use Rattle.std.proofs.Common.{◌∙◌, ap, sym, subst, length, length-set, map}
+use Rattle.std.specs.Prelude.{slice_set}
+use Rattle.dup_model.specs.Content.{Content}
+use Rattle.dup_model.specs.Names.{fields_at}
 use Rattle.dup_model.specs.Frame.{frame_of, bodies_of}
+use Rattle.dup_records.specs.Fits.{HaveTexts, TablesFit}
+use Rattle.dup_records.proofs.Fits.{fit_set}
 use Rattle.dup_records.proofs.Tables.{as_many, replaced, still_rising}
 use Rattle.dup_records.proofs.content.Content.with_rows.Goals as goal
 
@@ -9,6 +14,12 @@ invariant_of-result c =
       simp length-set (as_many (λ t. t.value) c.in_ok-tables.tables.items c.self.inside.tables.items same ∙ c.self.invariant.0 ∙ ap (λ s. length s.kinds) (sym c.in_ok-site.ensures)),
       still_rising (λ t. t.value) c.in_ok-tables.tables.items c.self.inside.tables.items c.from.result c.in_ok-tables-2.field-0 c.args.rows.items
           same (c.in_ok-tables-2.ensures.ok ∙ c.of.ensures) c.self.invariant.1 c.requires.rising,
+      subst (λ f. TablesFit f (map (λ t. t.value) (slice_set c.in_ok-tables.tables.items c.from.result c.in_ok-tables-2.field-0))) (ap frame_of (sym c.in_ok-site.ensures))
+      (subst (TablesFit (frame_of c.self.inside.site.value)) (sym (replaced (λ t. t.value) c.in_ok-tables.tables.items c.self.inside.tables.items c.from.result c.in_ok-tables-2.field-0 c.args.rows.items
+      same (c.in_ok-tables-2.ensures.ok ∙ c.of.ensures)))
+      (fit_set (frame_of c.self.inside.site.value) (map (λ t. t.value) c.self.inside.tables.items) c.from.result c.args.rows.items c.self.invariant.2
+      (subst (λ (s : Content). HaveTexts (length (fields_at s.frame c.from.result)) c.args.rows.items) (sym c.self.view_is)
+      (subst (λ n. HaveTexts (length (fields_at c.args.self.now.frame n)) c.args.rows.items) (sym c.from.ensures) c.requires.fit)))),
     )
 
 pub returns : goal.returns
