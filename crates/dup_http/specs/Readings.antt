@@ -48,7 +48,8 @@ pub record BeginsWith (bytes : List ℕ) (h : RequestHead) : Type 0 where
 abbrev pub HasNoHead : List ℕ → Type 0
 HasNoHead bytes = (h : RequestHead) → ¬ (BeginsWith bytes h)
 
--- they are as long as a head may be, or have more line feeds than a head of 64 fields
+-- they are as long as a head may be, or have more line feeds than a head of 64 fields that begins with its request
+-- line
 abbrev pub is_full : List ℕ → Bool
 is_full bytes = nat_le max_head (length bytes) || nat_lt (max_fields + 2) (count_by is_feed bytes)
 

@@ -37,7 +37,7 @@ fn feeds(window: &[u8]) -> usize
     window.iter().filter(|byte| **byte == b'\n').count()
 }
 
-/// Whether there can be no whole head of at most 64 fields behind it.
+/// Whether it is as long as a head may be, or has more line feeds than a head of 64 fields.
 fn is_full(window: &[u8]) -> bool
     ensures { result ≡ full window.now }
 {

@@ -1,7 +1,7 @@
 -- Worked examples of what is sent, word for word.
-use Rattle.std.specs.Prelude.{◌≡◌, ℕ, Bool, true, false, List, [], ◌∷◌, ◌++◌, codes, Some, None, Option}
+use Rattle.std.specs.Prelude.{◌≡◌, ℕ, true, false, List, [], ◌∷◌, ◌++◌, codes, Some, None, Option}
 use Rattle.dup_names.specs.Words.{Word}
-use Rattle.dup_model.specs.Caches.{Cache, with_first}
+use Rattle.dup_model.specs.Caches.{Cache}
 use Rattle.dup_model.specs.Editions.{Page, Bundle}
 use Rattle.dup_model.specs.declared.mode.Mode.TheVariants.{Update}
 use Rattle.dup_http.specs.declared.ask.Ask.{Ask}

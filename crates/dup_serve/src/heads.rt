@@ -10,13 +10,16 @@ use dup_http::{Reading, read_ask};
 use dup_io::{Failed, Source};
 use dup_names::NoMemory;
 use std::alloc::{AllocError, Global};
+use thiserror::Error;
 
 /// Why no head was read.
-#[derive(Clone, Copy, Debug, PartialEq, Eq)]
+#[derive(Clone, Copy, Debug, PartialEq, Eq, Error)]
 pub enum HeadFault {
-    /// The line failed.
+    /// The line failed, and has counted it.
+    #[error("a read failed")]
     ReadFault,
     /// Want of memory.
+    #[error("out of memory")]
     NoMemory,
 }
 

@@ -60,6 +60,17 @@ fn the_head_of_a_line_is_read(rt: HostRuntime) -> Result<(), Fail> {
     Ok(())
 }
 
+#[test]
+fn faults_are_told(rt: HostRuntime) -> Result<(), Fail> {
+    for (fault, text) in [
+        (HeadFault::ReadFault, "a read failed"),
+        (HeadFault::NoMemory, "out of memory"),
+    ] {
+        assert_eq!(rt; fault.to_string(rt.alloc())?.as_str(), text);
+    }
+    Ok(())
+}
+
 // A sink that takes so many bytes at a time and fails these writes gets this, and the reply ends so.
 fn reply_is(
     rt: &(impl Abort + Alloc<A = Global>),
