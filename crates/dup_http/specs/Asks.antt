@@ -58,8 +58,8 @@ number_in (v ∷ vs) = digits_value 10 v
 abbrev pub max_body : ℕ
 max_body = 262144
 
--- The rules for a head whose fields are taken, in order: what breaks a rule, and the code of the refusal. `of`
--- gives the values of the fields with a name.
+-- The rules for a head whose fields are taken, in order: what breaks a rule, and the code of the refusal.
+-- `of` gives the values of the fields with a name.
 abbrev pub rules : ℕ → Word → (Word → List Word) → List (Bool × ℕ)
 rules minor target of =
     (not (is_host minor (of (codes "host"))), 400)

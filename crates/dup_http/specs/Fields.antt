@@ -33,7 +33,8 @@ found (f ∷ fs) name = if same f.0 name then f.1 ∷ found fs name else found f
 abbrev pub body_of : List Word → Result ℕ ℕ
 body_of [] = Ok 0
 body_of (v ∷ []) =
-    if is_digits v then (if nat_le (digits_value 10 v) max_body then Ok (digits_value 10 v) else Err 413) else Err 400
+    if is_digits v then (if nat_le (digits_value 10 v) max_body then Ok (digits_value 10 v) else Err 413)
+    else Err 400
 body_of (v ∷ w ∷ vs) = Err 400
 
 -- the pass by these values of DUP-Pass, or the code of the refusal

@@ -28,8 +28,8 @@ abbrev pub unless_refused : Option ℕ → Ask → ℕ → Reading
 unless_refused None ask size = Complete ask size
 unless_refused (Some code) ask size = Bad code
 
--- what a whole head with these parts is read as: the code of the first rule that it breaks, else what it asks,
--- and its size
+-- what a whole head with these parts is read as: the code of the first rule that it breaks, else what it
+-- asks, and its size
 abbrev pub parts_say : ℕ → Word → Word → List (Word × Word) → ℕ → Reading
 parts_say minor method target fields size =
     unless_refused (refusal minor target fields) (ask_of method target (values fields)) size
@@ -48,18 +48,18 @@ pub record BeginsWith (bytes : List ℕ) (h : RequestHead) : Type 0 where
 abbrev pub HasNoHead : List ℕ → Type 0
 HasNoHead bytes = (h : RequestHead) → ¬ (BeginsWith bytes h)
 
--- they are as long as a head may be, or have more line feeds than a head of 64 fields that begins with its request
--- line
+-- they are as long as a head may be, or have more line feeds than a head of 64 fields that begins with its
+-- request line
 abbrev pub is_full : List ℕ → Bool
 is_full bytes = nat_le max_head (length bytes) || nat_lt (max_fields + 2) (count_by is_feed bytes)
 
--- The grammar refuses nothing yet: some bytes can follow that make it a head; or it ends in the target, whose test
--- for UTF-8 waits for its end; or more than 64 fields are there already.
+-- The grammar refuses nothing yet: some bytes can follow that make it a head; or it ends in the target,
+-- whose test for UTF-8 waits for its end; or more than 64 fields are there already.
 abbrev pub IsOpen : List ℕ → Type 0
 IsOpen bytes = MayBecomeRequest bytes ⊎ RequestExceeds max_fields bytes
 
--- What is read where no whole head is there. The grammar refuses only what no bytes can mend that follow. While it
--- refuses nothing, more is wanted, unless the window is full.
+-- What is read where no whole head is there. The grammar refuses only what no bytes can mend that follow.
+-- While it refuses nothing, more is wanted, unless the window is full.
 abbrev pub IsUnfinished : List ℕ → Reading → Type 0
 IsUnfinished bytes (Complete ask size) = ⊥
 IsUnfinished bytes More = IsOpen bytes × (is_full bytes ≡ false)
@@ -79,10 +79,11 @@ ReadsItsHead bytes reading = (h : RequestHead) → BeginsWith bytes h → readin
 -- a whole head of more fields in the window is too large
 abbrev pub RefusesManyFields : List ℕ → Reading → Type 0
 RefusesManyFields bytes reading =
-    (h : RequestHead) (rest : List ℕ) → ReadsRequest bytes h rest → max_fields < length h.fields → reading ≡ Bad 431
+    (h : RequestHead) (rest : List ℕ) → ReadsRequest bytes h rest → max_fields < length h.fields
+    → reading ≡ Bad 431
 
--- What a caller may count on: a head lies in that many bytes, and its body isn't too large; more is wanted only
--- while there are fewer than 8,192 bytes; the code of a refusal has a reason.
+-- What a caller may count on: a head lies in that many bytes, and its body isn't too large; more is wanted
+-- only while there are fewer than 8,192 bytes; the code of a refusal has a reason.
 abbrev pub IsInBounds : ℕ → Reading → Type 0
 IsInBounds n (Complete ask size) = (size ≤ n) × (ask.body ≤ max_body)
 IsInBounds n More = n < max_head

@@ -95,11 +95,11 @@ fn read_window(alloc: Global, window: &[u8]) -> Result<Reading, NoMemory>
 
 /// What the first bytes of a connection are read as. At most 8,192 of them are looked at.
 ///
-/// `Complete` comes once a whole head of at most 64 fields is there that no rule refuses, `Bad` where it is refused,
-/// where the grammar refuses the bytes, or where the head is too large, and `More` else.
+/// `Complete` comes once a whole head of at most 64 fields is there that no rule refuses, `Bad` where a
+/// rule or the grammar refuses the bytes, or the head is too large, and `More` else.
 ///
-/// It reads all the bytes anew at each call, in time that grows with their number, and keeps no memory. Want of
-/// memory may come where a head is whole, for the copies of its fields.
+/// It reads all the bytes anew at each call, in time that grows with their number, and keeps no memory.
+/// Want of memory may come where a head is whole, for the copies of its fields.
 pub fn read_ask(alloc: Global, bytes: &[u8]) -> Result<Reading, NoMemory>
     ensures reads { IfOk result (Reads (window_of bytes.now)) }
     ensures whole { IfOk result (ReadsItsHead (window_of bytes.now)) }

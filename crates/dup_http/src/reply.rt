@@ -134,9 +134,9 @@ fn head(answer: &Answer) -> ArrayString<MAX>
     head
 }
 
-/// Appends the head of a reply, of at most 512 bytes, to a body whose length the answer says. The code must be one of
-/// those that replies have. Where memory runs out nothing is appended, and with 512 bytes to spare it doesn't. The text
-/// is made aside, and appended by one copy.
+/// Appends the head of a reply, of at most 512 bytes, for an answer whose code is one of those that replies
+/// have. Where memory runs out nothing is appended, and with 512 bytes to spare it doesn't. The text is
+/// made aside, and appended by one copy.
 pub fn reply_head(answer: &Answer, out: &mut Vec<u8>) -> Result<(), NoMemory>
     requires { IsSome (reason_of answer.now.code) }
     ensures ok { OnOk result (out.new.items ≡ out.old.items ++ head_text answer.now) }

@@ -8,7 +8,8 @@ use Rattle.dup_http.specs.declared.ask.Method.{Method}
 use Rattle.dup_http.specs.declared.ask.Method.TheVariants.{Get, Head, Post, Other}
 use Rattle.dup_serve.specs.Sent.{Sent, said, absent, not_allowed, sent_text}
 
--- what the desk answers to the body of a commit; any other refusal than the first two has the words of its answer
+-- what the desk answers to the body of a commit; any other refusal than the first two has the words of its
+-- answer
 pub data Took : Type 0 where
   NotJson : Took
   JournalFull : Took

@@ -51,8 +51,8 @@ at_status = Some (codes "/status")
 -- the head of a reply with a line of so many bytes, and further fields
 abbrev pub plain_head : Word → Word → Word → Word
 plain_head code length fields =
-    codes "HTTP/1.1 " ++ code ++ codes "\r\nContent-Type: text/plain; charset=utf-8\r\nContent-Length: " ++ length
-    ++ codes "\r\n" ++ fields ++ codes "Connection: close\r\n\r\n"
+    codes "HTTP/1.1 " ++ code ++ codes "\r\nContent-Type: text/plain; charset=utf-8\r\n"
+    ++ codes "Content-Length: " ++ length ++ codes "\r\n" ++ fields ++ codes "Connection: close\r\n\r\n"
 
 -- the head of a reply that has the page
 abbrev pub event_head : Word → Word
@@ -61,24 +61,33 @@ event_head how =
     ++ codes "DUP-Edition: 1\r\nDUP-Version: 1\r\nDUP-Cache: " ++ how ++ codes "\r\nConnection: close\r\n\r\n"
 
 pub record NodeRows : Type 0 where
-  pub found : node_text empty log true (asks Get at_event 1) ≡ event_head (codes "miss") ++ codes "<h1>100m</h1>"
-  pub unkept : node_text empty log false (asks Get at_event 1) ≡ event_head (codes "unkept") ++ codes "<h1>100m</h1>"
+  pub found : node_text empty log true (asks Get at_event 1)
+      ≡ event_head (codes "miss") ++ codes "<h1>100m</h1>"
+  pub unkept : node_text empty log false (asks Get at_event 1)
+      ≡ event_head (codes "unkept") ++ codes "<h1>100m</h1>"
   pub head : node_text warm log true (asks Head at_event 1) ≡ event_head (codes "hit")
   pub not_allowed : node_text empty log true (asks Post at_event 1)
-      ≡ plain_head (codes "405 Method Not Allowed") (codes "19") (codes "Allow: GET, HEAD\r\n") ++ codes "method not allowed\n"
+      ≡ plain_head (codes "405 Method Not Allowed") (codes "19") (codes "Allow: GET, HEAD\r\n")
+      ++ codes "method not allowed\n"
   pub ahead : node_text empty log true (asks Get at_event 2)
-      ≡ plain_head (codes "503 Service Unavailable") (codes "6") (codes "DUP-Edition: 1\r\nDUP-Pass: 2\r\n") ++ codes "ahead\n"
+      ≡ plain_head (codes "503 Service Unavailable") (codes "6") (codes "DUP-Edition: 1\r\nDUP-Pass: 2\r\n")
+      ++ codes "ahead\n"
   pub absent : node_text empty log true (asks Get (Some (codes "/event/e2")) 1)
       ≡ plain_head (codes "404 Not Found") (codes "7") (codes "DUP-Edition: 1\r\n") ++ codes "absent\n"
-  pub no_path : node_text empty log true (asks Get None 2) ≡ plain_head (codes "404 Not Found") (codes "7") [] ++ codes "absent\n"
-  pub bad_request : refused_text 400 ≡ plain_head (codes "400 Bad Request") (codes "12") [] ++ codes "bad request\n"
-  pub too_large : refused_text 413 ≡ plain_head (codes "413 Content Too Large") (codes "10") [] ++ codes "too large\n"
+  pub no_path : node_text empty log true (asks Get None 2)
+      ≡ plain_head (codes "404 Not Found") (codes "7") [] ++ codes "absent\n"
+  pub bad_request : refused_text 400
+      ≡ plain_head (codes "400 Bad Request") (codes "12") [] ++ codes "bad request\n"
+  pub too_large : refused_text 413
+      ≡ plain_head (codes "413 Content Too Large") (codes "10") [] ++ codes "too large\n"
   pub head_too_large : refused_text 431
       ≡ plain_head (codes "431 Request Header Fields Too Large") (codes "15") [] ++ codes "head too large\n"
-  pub not_implemented : refused_text 501 ≡ plain_head (codes "501 Not Implemented") (codes "16") [] ++ codes "not implemented\n"
+  pub not_implemented : refused_text 501
+      ≡ plain_head (codes "501 Not Implemented") (codes "16") [] ++ codes "not implemented\n"
 
 pub record DeskRows : Type 0 where
-  pub accepted : desk_text (asks Post at_commit 0) (Accepted 3) [] ≡ plain_head (codes "200 OK") (codes "12") [] ++ codes "committed 3\n"
+  pub accepted : desk_text (asks Post at_commit 0) (Accepted 3) []
+      ≡ plain_head (codes "200 OK") (codes "12") [] ++ codes "committed 3\n"
   pub not_json : desk_text (asks Post at_commit 0) NotJson []
       ≡ plain_head (codes "400 Bad Request") (codes "17") [] ++ codes "refused not json\n"
   pub full : desk_text (asks Post at_commit 0) JournalFull []
@@ -86,11 +95,17 @@ pub record DeskRows : Type 0 where
   pub refused : desk_text (asks Post at_commit 0) (Refused (codes "refused no row 1")) []
       ≡ plain_head (codes "422 Unprocessable Content") (codes "17") [] ++ codes "refused no row 1\n"
   pub get : desk_text (asks Get at_commit 0) NotJson []
-      ≡ plain_head (codes "405 Method Not Allowed") (codes "19") (codes "Allow: POST\r\n") ++ codes "method not allowed\n"
-  pub status : desk_text (asks Get at_status 0) NotJson (codes "idle") ≡ plain_head (codes "200 OK") (codes "5") [] ++ codes "idle\n"
-  pub head : desk_text (asks Head at_status 0) NotJson (codes "idle") ≡ plain_head (codes "200 OK") (codes "5") []
+      ≡ plain_head (codes "405 Method Not Allowed") (codes "19") (codes "Allow: POST\r\n")
+      ++ codes "method not allowed\n"
+  pub status : desk_text (asks Get at_status 0) NotJson (codes "idle")
+      ≡ plain_head (codes "200 OK") (codes "5") [] ++ codes "idle\n"
+  pub head : desk_text (asks Head at_status 0) NotJson (codes "idle")
+      ≡ plain_head (codes "200 OK") (codes "5") []
   pub post : desk_text (asks Post at_status 0) NotJson (codes "idle")
-      ≡ plain_head (codes "405 Method Not Allowed") (codes "19") (codes "Allow: GET, HEAD\r\n") ++ codes "method not allowed\n"
-  pub absent : desk_text (asks Post at_event 0) NotJson [] ≡ plain_head (codes "404 Not Found") (codes "7") [] ++ codes "absent\n"
-  pub cut : cut_text (asks Post at_commit 0) ≡ plain_head (codes "400 Bad Request") (codes "12") [] ++ codes "bad request\n"
+      ≡ plain_head (codes "405 Method Not Allowed") (codes "19") (codes "Allow: GET, HEAD\r\n")
+      ++ codes "method not allowed\n"
+  pub absent : desk_text (asks Post at_event 0) NotJson []
+      ≡ plain_head (codes "404 Not Found") (codes "7") [] ++ codes "absent\n"
+  pub cut : cut_text (asks Post at_commit 0)
+      ≡ plain_head (codes "400 Bad Request") (codes "12") [] ++ codes "bad request\n"
   pub cut_head : cut_text (asks Head at_status 0) ≡ plain_head (codes "400 Bad Request") (codes "12") []

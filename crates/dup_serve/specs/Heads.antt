@@ -9,7 +9,8 @@ use Rattle.dup_http.specs.declared.ask.Reading.TheVariants.{More}
 abbrev pub max_piece : ℕ
 max_piece = 1024
 
--- a piece was taken off what is left, and stands behind what was read before; without one the input is at its end
+-- a piece was taken off what is left, and stands behind what was read before; without one the input is at
+-- its end
 pub record TakesMore (left rest : Option (List ℕ)) (before after : List ℕ) (some : Bool) : Type 0 where
   pub piece : List ℕ
   pub behind : after ≡ before ++ piece
@@ -26,6 +27,7 @@ pub record LastWasWanted (bytes : List ℕ) : Type 0 where
   pub small : length piece ≤ max_piece
   pub wanted : Reads (window front) More
 
--- nothing was read, or the last piece was wanted: no more is taken off a line than the piece that a head ends in
+-- nothing was read, or the last piece was wanted: no more is taken off a line than the piece that a head
+-- ends in
 abbrev pub IsNoLonger : List ℕ → Type 0
 IsNoLonger bytes = (bytes ≡ []) ⊎ LastWasWanted bytes

@@ -52,11 +52,13 @@ by_method Head sent = sent
 by_method Post sent = not_allowed GetHead
 by_method Other sent = not_allowed GetHead
 
--- the table of a node, by the reply at each path: the method is looked at first, then the path, then the reply
+-- the table of a node, by the reply at each path: the method is looked at first, then the path, then the
+-- reply
 abbrev pub node_table : Ask → (Word → Reply) → Sent
 node_table ask reply = by_method ask.method (at_path ask.path reply)
 
--- what a node writes for an ask: with its cache before it, the log of its window, and whether a page that it misses is kept
+-- what a node writes for an ask, by its cache before it, the log of its window, and whether a page that it
+-- misses is kept
 abbrev pub node_text : Cache → List Bundle → Bool → Ask → Word
 node_text cache log kept ask =
     sent_text ask.method (node_table ask (λ path. (answer cache log ask.pass path kept).reply))

@@ -76,4 +76,5 @@ absent = said 404 (codes "absent")
 -- the path allows these methods alone
 abbrev pub not_allowed : Allow → Sent
 not_allowed allow =
-    let said_so = said 405 (codes "method not allowed") in record said_so { answer = record said_so.answer { allow = Some allow } }
+    let no = said 405 (codes "method not allowed") in
+    record no { answer = record no.answer { allow = Some allow } }

@@ -49,7 +49,8 @@ impl From<AllocError> for HeadFault {
 
 /// Takes a piece of the line behind the bytes that were read before, and says whether any came.
 fn take_more<S: Source>(line: &mut S, bytes: &mut Vec<u8>) -> Result<bool, HeadFault>
-    ensures taken { IfOk result (TakesMore (S.left line.old) (S.left line.new) bytes.old.items bytes.new.items) }
+    ensures taken { IfOk result
+        (TakesMore (S.left line.old) (S.left line.new) bytes.old.items bytes.new.items) }
     ensures read_fault { IsErrOf result HeadFault.ReadFault → Rose (S.faults line.old) (S.faults line.new) }
     ensures faults { S.faults line.old ≤ S.faults line.new }
     ensures no_fault { result ≢ Err HeadFault.ReadFault → S.faults line.new ≡ S.faults line.old }
@@ -61,12 +62,12 @@ fn take_more<S: Source>(line: &mut S, bytes: &mut Vec<u8>) -> Result<bool, HeadF
     Ok(count > 0)
 }
 
-/// Reads a line until its head is whole or refused, or the input ends, where the answer is `More`. No byte came where
-/// that leaves `bytes` empty.
+/// Reads a line until its head is whole or refused, or the input ends, where the answer is `More`. Where no
+/// byte came before that, `bytes` is empty.
 ///
-/// `bytes` gets what was read: the head, and behind it what came in the piece that it ends in, of at most 1,024 bytes.
-/// Each piece costs one reading of all the bytes so far. After a failure `bytes` and what is left of the line are
-/// left open.
+/// `bytes` gets what was read: the head, and behind it what came in the piece that it ends in, of at most
+/// 1,024 bytes. Each piece costs one reading of all the bytes so far. After a failure nothing is said of
+/// `bytes`, nor of what is left of the line.
 pub fn read_head<S: Source>(
     alloc: Global,
     line: &mut S,

@@ -1,5 +1,5 @@
-//! What is sent for a request: the tables of a node's replies and of the feed desk's, as definitions with their law;
-//! reading the head of a request off a line, and writing a reply to it.
+//! What is sent for a request: the tables of a node's replies and of the feed desk's, as definitions with
+//! their law; reading the head of a request off a line, and writing a reply to it.
 #![tactic(auto)]
 
 mod heads;

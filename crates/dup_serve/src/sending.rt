@@ -20,11 +20,11 @@ fn body_for(method: Method, body: &[u8]) -> &[u8]
     }
 }
 
-/// Writes a reply: its head, and its body unless the method is `HEAD`. Where the line fails, the first bytes of the reply
-/// were written.
+/// Writes a reply: its head, and its body unless the method is `HEAD`. Where no ask was read, `GET` stands
+/// for the method. Where the line fails, the first bytes of the reply were written.
 ///
-/// The head is made in an empty `Vec` with room for 512 bytes, which the caller takes before it asks for what the reply
-/// says, so that memory can't run out once that was asked. The body isn't copied.
+/// The head is made in an empty `Vec` with room for 512 bytes, which the caller takes before it asks for
+/// what the reply says, so that memory can't run out once that was asked. The body isn't copied.
 pub fn send<K: Sink>(
     line: &mut K,
     method: Method,

@@ -102,10 +102,10 @@ fn reply_is(
 
 #[test]
 fn a_reply_is_written(rt: HostRuntime) -> Result<(), Fail> {
-    let head =
-        "HTTP/1.1 405 Method Not Allowed\r\nContent-Type: text/plain; charset=utf-8\r\nContent-Length: 19\r\nAllow: POST\r\nConnection: close\r\n\r\n";
-    let whole =
-        "HTTP/1.1 405 Method Not Allowed\r\nContent-Type: text/plain; charset=utf-8\r\nContent-Length: 19\r\nAllow: POST\r\nConnection: close\r\n\r\nmethod not allowed\n";
+    let head = "HTTP/1.1 405 Method Not Allowed\r\nContent-Type: text/plain; charset=utf-8\r\n\
+                Content-Length: 19\r\nAllow: POST\r\nConnection: close\r\n\r\n";
+    let whole = "HTTP/1.1 405 Method Not Allowed\r\nContent-Type: text/plain; charset=utf-8\r\n\
+                 Content-Length: 19\r\nAllow: POST\r\nConnection: close\r\n\r\nmethod not allowed\n";
     reply_is(&rt, "GET", Method::Get, &[], whole, Ok(()))?;
     reply_is(&rt, "HEAD", Method::Head, &[], head, Ok(()))?;
     reply_is(
