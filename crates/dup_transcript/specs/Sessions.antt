@@ -114,24 +114,24 @@ get_text s node pass path =
 
 -- the answer to the command in the line of this number
 abbrev pub play_answer : Parts → Session → ℕ → Command → Word
-play_answer site s number (command.Commit commit) = commit_text s (refused_behind site s.commits commit)
-play_answer site s number command.Settle = settle_text site s
-play_answer site s number (command.Node node capacity mode) = node_text s node
-play_answer site s number (command.Get node pass path) = get_text s node pass path
-play_answer site s number command.Blank = []
-play_answer site s number command.NotBuilt = not_built_text number
+play_answer site s at_line (command.Commit commit) = commit_text s (refused_behind site s.commits commit)
+play_answer site s at_line command.Settle = settle_text site s
+play_answer site s at_line (command.Node node capacity mode) = node_text s node
+play_answer site s at_line (command.Get node pass path) = get_text s node pass path
+play_answer site s at_line command.Blank = []
+play_answer site s at_line command.NotBuilt = not_built_text at_line
 
 -- what is written for commands, behind a session and so many lines, where this is written last
 abbrev pub PlaysCommands : Parts → Session → ℕ → List Command → Word → Word → Type 0
-PlaysCommands site s number [] last out = out ≡ last
-PlaysCommands site s number (command ∷ rest) last out =
-    (more : Word) × (out ≡ play_answer site s (number + 1) command ++ more)
-    × PlaysCommands site (after_command site s command) (number + 1) rest last more
+PlaysCommands site s at_line [] last out = out ≡ last
+PlaysCommands site s at_line (command ∷ rest) last out =
+    (more : Word) × (out ≡ play_answer site s (at_line + 1) command ++ more)
+    × PlaysCommands site (after_command site s command) (at_line + 1) rest last more
 
 -- what is written for a script, behind a session and so many lines: the answers to its commands, and what is
 -- too long
 abbrev pub Writes : (Word → Command) → Parts → Session → ℕ → Reading → Word → Type 0
-Writes feed site s number input out = PlaysCommands site s number (commands feed input) (too_long input) out
+Writes feed site s at_line input out = PlaysCommands site s at_line (commands feed input) (too_long input) out
 
 -- a commit is one put, as each that is built
 abbrev pub IsPutting : Command → Type 0
