@@ -58,10 +58,10 @@ sink_calls s = s.calls
 abbrev pub sink_faults : MemorySink → ℕ
 sink_faults s = s.faults
 
--- whether the next write fails, of these bytes: it is listed, or the room is full
-abbrev pub write_fails : MemorySink → List ℕ → Bool
-write_fails s bytes =
-    (nat_le (sink_room s) (length (sink_written s)) && nat_lt 0 (length bytes))
+-- whether the next write fails: the room is full, or it is listed
+abbrev pub write_fails : MemorySink → Bool
+write_fails s =
+    nat_le (sink_room s) (length (sink_written s))
     || list_any (λ n. nat_eq n (next_call (sink_calls s))) (sink_fails s)
 
 -- a read leaves the size of a piece and the list of the reads that fail

@@ -158,14 +158,14 @@ impl Sink for MemorySink {
         ensures cause { HasCause (sink_faults self.old) (sink_faults self.new) result }
         ensures beside { SameSink self.old self.new }
         ensures calls { sink_calls self.new ≡ next_call (sink_calls self.old) }
-        ensures fails { is_err result ≡ write_fails self.old from.now }
+        ensures fails { is_err result ≡ write_fails self.old }
         ensures exact { IfOk result (λ n.
             n ≡ min (min (sink_piece self.old) (length from.now))
             (sink_room self.old - length (sink_written self.old))) }
     {
         self.calls = self.calls.saturating_add(1);
         let room = self.room - self.bytes.len();
-        let is_full = room == 0 && !from.is_empty();
+        let is_full = room == 0;
         let count = self.piece.min(from.len()).min(room);
         if is_full
             || self.fails.contains(&self.calls)
