@@ -143,7 +143,7 @@ fn an_event_notes_what_its_results_are_ordered_by(rt: HostRuntime) -> Result<(),
         ("result", "r2", &[("event", "e1"), ("place", "10")]),
         ("result", "r3", &[("event", "e1"), ("place", "9")]),
     ];
-    let content = content(alloc, RESULTS_SITE.as_bytes(), &rows)?;
+    let content = content(alloc, RESULTS_SITE, &rows)?;
     let mut meter = Meter::new();
     let made = expanded(alloc, &content, "event_page", "e1", &mut meter)?;
     let key = Some(key("e1")?);

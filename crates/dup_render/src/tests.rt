@@ -152,7 +152,7 @@ fn an_event_shows_its_results_by_place(rt: HostRuntime) -> Result<(), Fail> {
             &[("event", "e2"), ("place", "1"), ("who", "Dot")],
         ),
     ];
-    let content = content(alloc, RESULTS_SITE.as_bytes(), &rows)?;
+    let content = content(alloc, RESULTS_SITE, &rows)?;
     for (row, want) in [
         (
             "e1",

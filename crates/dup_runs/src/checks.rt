@@ -1,8 +1,6 @@
 // The canonical text of a site, and how `check` ends.
-use crate::plays::{
-    RESULTS, SITE, Setting, checking, each_has_cause, ends, in_pieces, joined, repeated,
-};
-use dup_samples::EVENTS_SITE;
+use crate::plays::{SITE, Setting, checking, each_has_cause, ends, in_pieces, joined, repeated};
+use dup_samples::{EVENTS_SITE, RESULTS_SITE};
 use std::marker::Sync;
 use std::process::Abort;
 use std::test::Fail;
@@ -68,7 +66,7 @@ family /p.q/r_s-1 t
 
 #[test]
 fn a_site_is_written_line_for_line(rt: HostRuntime) -> Result<(), Fail> {
-    for site in [RESULTS, FORMS, b"kind a\n", b"kind a f\n", b""] {
+    for site in [RESULTS_SITE, FORMS, b"kind a\n", b"kind a f\n", b""] {
         for piece in [1, 64, 4096] {
             ends(&rt, checking(piece), site, 0, site)?;
         }
@@ -79,9 +77,9 @@ fn a_site_is_written_line_for_line(rt: HostRuntime) -> Result<(), Fail> {
 #[test]
 fn comments_and_spaces_are_left_out(rt: HostRuntime) -> Result<(), Fail> {
     let alloc = rt.alloc();
-    ends(&rt, checking(64), SPACED, 0, RESULTS)?;
+    ends(&rt, checking(64), SPACED, 0, RESULTS_SITE)?;
     let more = joined(alloc, &[SPACED, b"\n\n  \n#\n"])?;
-    ends(&rt, checking(64), &more, 0, RESULTS)?;
+    ends(&rt, checking(64), &more, 0, RESULTS_SITE)?;
     let rows: [(&[u8], &[u8]); 6] = [
         (b"kind a", b"kind a\n"),
         (b"  kind   a  \n", b"kind a\n"),
@@ -110,13 +108,13 @@ fn what_stands_behind_the_site_text_is_not_looked_at(rt: HostRuntime) -> Result<
         b"\xff\x00",
         &long,
     ] {
-        let input = joined(alloc, &[RESULTS, b"---\n", behind])?;
-        ends(&rt, checking(64), &input, 0, RESULTS)?;
+        let input = joined(alloc, &[RESULTS_SITE, b"---\n", behind])?;
+        ends(&rt, checking(64), &input, 0, RESULTS_SITE)?;
         let bare = joined(alloc, &[b"---\n", behind])?;
         ends(&rt, checking(64), &bare, 0, b"")?;
     }
     ends(&rt, checking(64), b"---", 0, b"")?;
-    ends(&rt, checking(64), SITE, 0, EVENTS_SITE.as_bytes())
+    ends(&rt, checking(64), SITE, 0, EVENTS_SITE)
 }
 
 #[test]
@@ -144,7 +142,7 @@ family /p/k v
 #[test]
 fn a_good_site_of_another_form_is_checked_and_not_played(rt: HostRuntime) -> Result<(), Fail> {
     let two: &[u8] = b"kind a\nkind b\ntemplate t of a\nend\nfamily /p t\n";
-    for site in [two, RESULTS, FORMS, b""] {
+    for site in [two, RESULTS_SITE, FORMS, b""] {
         ends(&rt, checking(64), site, 0, site)?;
         ends(&rt, in_pieces(64), site, 5, b"bad site: not built\n")?;
     }
@@ -183,21 +181,45 @@ fn failing<'a>(piece: usize, source_fails: &'a [u64], sink_fails: &'a [u64]) -> 
 
 #[test]
 fn each_read_of_a_check_that_fails_is_told(rt: HostRuntime) -> Result<(), Fail> {
-    let past = RESULTS.len() as u64 + 2;
+    let past = RESULTS_SITE.len() as u64 + 2;
     for call in 1..past {
-        ends(&rt, failing(1, &[call], &[]), RESULTS, 3, b"read fault\n")?;
+        ends(
+            &rt,
+            failing(1, &[call], &[]),
+            RESULTS_SITE,
+            3,
+            b"read fault\n",
+        )?;
     }
-    ends(&rt, failing(1, &[past], &[]), RESULTS, 0, RESULTS)?;
-    ends(&rt, failing(4096, &[1], &[]), RESULTS, 3, b"read fault\n")?;
-    ends(&rt, failing(4096, &[2], &[]), RESULTS, 3, b"read fault\n")?;
-    ends(&rt, failing(4096, &[2], &[]), SITE, 0, EVENTS_SITE.as_bytes())
+    ends(&rt, failing(1, &[past], &[]), RESULTS_SITE, 0, RESULTS_SITE)?;
+    ends(
+        &rt,
+        failing(4096, &[1], &[]),
+        RESULTS_SITE,
+        3,
+        b"read fault\n",
+    )?;
+    ends(
+        &rt,
+        failing(4096, &[2], &[]),
+        RESULTS_SITE,
+        3,
+        b"read fault\n",
+    )?;
+    ends(&rt, failing(4096, &[2], &[]), SITE, 0, EVENTS_SITE)
 }
 
 #[test]
 fn each_write_of_a_check_that_fails_is_told(rt: HostRuntime) -> Result<(), Fail> {
-    for call in 0..RESULTS.len() {
+    for call in 0..RESULTS_SITE.len() {
         let fails = [call as u64 + 1];
-        ends(&rt, failing(1, &[], &fails), RESULTS, 4, &RESULTS[..call])?;
+        ends(
+            &rt,
+            failing(1, &[], &fails),
+            RESULTS_SITE,
+            4,
+            &RESULTS_SITE[..call],
+        )?;
     }
     let bad = b"template t\nend\npage / u\n";
     let line = b"bad site: unknown u\n";
@@ -205,5 +227,5 @@ fn each_write_of_a_check_that_fails_is_told(rt: HostRuntime) -> Result<(), Fail>
         let fails = [call as u64 + 1];
         ends(&rt, failing(1, &[], &fails), bad, 4, &line[..call])?;
     }
-    ends(&rt, failing(64, &[1], &[1]), RESULTS, 4, b"")
+    ends(&rt, failing(64, &[1], &[1]), RESULTS_SITE, 4, b"")
 }

@@ -3,7 +3,6 @@ ghost use Rattle.std.specs.Prelude.{◌<◌};
 
 use dup_io::{MemorySink, MemorySource};
 use dup_main::desk_main;
-use dup_samples::RESULTS_SITE;
 use std::alloc::{AllocError, Global};
 use std::marker::Sync;
 use std::process::Abort;
@@ -21,9 +20,6 @@ end
 family /event event_page
 ---
 ";
-
-/// A site of two kinds, whose page of an event lists its results by their places.
-pub(crate) const RESULTS: &[u8] = RESULTS_SITE.as_bytes();
 
 fn words_of(alloc: Global, texts: &[&str]) -> Result<Vec<String>, AllocError> {
     let mut words = Vec::new(alloc);
@@ -121,7 +117,11 @@ pub(crate) fn ends(
     let (got, written) = run(rt, setting, input)?;
     let piece = setting.piece;
     let row = end_of(input);
-    assert_eq!(rt; written.as_slice(), output, "in pieces of {piece}, behind {row}");
+    assert_eq!(rt;
+        written.as_slice(),
+        output,
+        "in pieces of {piece}, behind {row}"
+    );
     assert_eq!(rt; got, status, "in pieces of {piece}, behind {row}");
     Ok(())
 }

@@ -1,5 +1,6 @@
 // What `render` writes, and how it ends.
-use crate::plays::{RESULTS, SITE, Setting, each_has_cause, ends, joined, rendering, repeated};
+use crate::plays::{SITE, Setting, each_has_cause, ends, joined, rendering, repeated};
+use dup_samples::RESULTS_SITE;
 use std::alloc::Global;
 use std::marker::Sync;
 use std::process::Abort;
@@ -53,7 +54,7 @@ commit {\"changes\":[{\"put\":\"result\",\"key\":\"r1\",\"fields\":{\"event\":\"
 commit {\"changes\":[{\"put\":\"result\",\"key\":\"r2\",\"fields\":{\"event\":\"e1\",\"place\":\"10\",\"who\":\"Bob\"}}]}
 commit {\"changes\":[{\"put\":\"result\",\"key\":\"r3\",\"fields\":{\"event\":\"e1\",\"place\":\"9\",\"who\":\"Cy\"}}]}
 ";
-    let input = joined(rt.alloc(), &[RESULTS, b"---\n", script])?;
+    let input = joined(rt.alloc(), &[RESULTS_SITE, b"---\n", script])?;
     ends(
         &rt,
         rendering(64),

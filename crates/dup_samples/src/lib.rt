@@ -3,7 +3,7 @@
 
 /// Events and their results: the page of an event lists its results in the order of their places, by a
 /// template that is embedded in the event's.
-pub const RESULTS_SITE: &str = "kind event title
+pub const RESULTS_SITE: &[u8] = b"kind event title
 kind result event who place
 template line of result
 = <li>
@@ -24,7 +24,7 @@ family /event event_page
 ";
 
 /// Events alone: the page of an event shows its one field.
-pub const EVENTS_SITE: &str = "kind event title
+pub const EVENTS_SITE: &[u8] = b"kind event title
 template event_page of event
 = <h1>
 field title
