@@ -8,6 +8,7 @@ use Rattle.dup_model.specs.Commits.{Commit}
 use Rattle.dup_model.specs.declared.edit.Edit.{Edit}
 use Rattle.serde_json.specs.View.{view, items_view}
 use Rattle.serde_json.specs.declared.value.Value.{Value}
+use Rattle.dup_names.specs.declared.limits.TheConstants.{MAX_CHANGES}
 use Rattle.dup_feed.specs.declared.refusal.FeedRefusal.{FeedRefusal}
 use Rattle.dup_feed.specs.declared.refusal.FeedRefusal.TheVariants.{Shape, TooMany}
 use Rattle.dup_feed.specs.Feed.{Said, put_first, each_by, each_from, change_of, count_items, array_says, Refuses, Reads}
@@ -56,15 +57,15 @@ pub each_length : (vs : List Value) (i : ℕ) (es : Commit) → each_from i (ite
 each_length [] i es is = let same : [] ≡ es = cc in ap length (sym same)
 each_length (v ∷ vs) i es is = length-by i (change_of (view v)) (each_from (i + 1) (items_view vs)) es (length vs) (λ fs. each_length vs (i + 1) fs) is
 
-pub says_many : (vs : List Value) → 256 < length vs → array_says (Some (items_view vs)) ≡ Err (TooMany (length vs))
+pub says_many : (vs : List Value) → MAX_CHANGES < length vs → array_says (Some (items_view vs)) ≡ Err (TooMany (length vs))
 says_many vs many =
     let some : nat_eq (length vs) 0 ≡ false = false_from_ne_true (nat_eq (length vs) 0) (λ e. absurd (let z : length vs ≡ 0 = eqb-true (length vs) 0 e in omega arith)) in
-    rw (count_elements vs, some, lt-ltb 256 (length vs) many) refl
+    rw (count_elements vs, some, lt-ltb MAX_CHANGES (length vs) many) refl
 
-pub says_each : (vs : List Value) → 0 < length vs → length vs ≤ 256 → array_says (Some (items_view vs)) ≡ each_from 1 (items_view vs)
+pub says_each : (vs : List Value) → 0 < length vs → length vs ≤ MAX_CHANGES → array_says (Some (items_view vs)) ≡ each_from 1 (items_view vs)
 says_each vs some few =
     let full : nat_eq (length vs) 0 ≡ false = false_from_ne_true (nat_eq (length vs) 0) (λ e. absurd (let z : length vs ≡ 0 = eqb-true (length vs) 0 e in omega arith)) in
-    rw (count_elements vs, full, le-ltb 256 (length vs) few) refl
+    rw (count_elements vs, full, le-ltb MAX_CHANGES (length vs) few) refl
 
 pub some_length : (n : ℕ) (b : Bool) → b ≡ (n == 0) → b ≡ false → 0 < n
 some_length zero b is not = cc

@@ -1,8 +1,11 @@
 -- What the bytes of a feed message say.
-use Rattle.std.specs.Prelude.{ℕ, ◌+◌, Bool, List, [], ◌∷◌, length, codes, nat_eq, nat_le, nat_lt, if◌then◌else◌, Option, Some, None, option_map, option_and_then, Result, Ok, Err, ◌≡◌}
+use Rattle.std.specs.Prelude.{◌≡◌, ℕ, ◌+◌, Bool, codes, nat_eq, nat_le, nat_lt, if◌then◌else◌, List, [], ◌∷◌}
+use Rattle.std.specs.Prelude.{length}
+use Rattle.std.specs.Prelude.{Option, Some, None, option_map, option_and_then, Result, Ok, Err}
 use Rattle.std.specs.Str.{is_utf8}
 use Rattle.dup_names.specs.Words.{Word}
 use Rattle.dup_names.specs.Grammar.{is_name, is_key}
+use Rattle.dup_names.specs.declared.limits.TheConstants.{MAX_CHANGES, MAX_TEXT_BYTES}
 use Rattle.dup_model.specs.Commits.{Commit}
 use Rattle.dup_model.specs.declared.edit.Edit.{Edit}
 use Rattle.dup_model.specs.declared.edit.Edit.TheVariants.{Put, Remove}
@@ -32,15 +35,18 @@ count_of None = 0
 count_of (Some ms) = count_members ms
 
 abbrev pub is_text : Word → Bool
-is_text text = nat_le (length text) 4096
+is_text text = nat_le (length text) MAX_TEXT_BYTES
 
 -- a field's name, and its text
 abbrev pub field_of : Word → Data → Option (Word × Word)
-field_of name d = if is_name name then option_map (λ text. (name, text)) (option_and_then (where_so is_text) (as_str d)) else None
+field_of name d =
+    if is_name name then option_map (λ text. (name, text))
+    (option_and_then (where_so is_text) (as_str d)) else None
 
 abbrev pub fields_of : Members → Option (List (Word × Word))
 fields_of no_members = Some []
-fields_of (member name d ms) = option_and_then (λ f. option_map (λ fs. f ∷ fs) (fields_of ms)) (field_of name d)
+fields_of (member name d ms) =
+    option_and_then (λ f. option_map (λ fs. f ∷ fs) (fields_of ms)) (field_of name d)
 
 -- {"put": KIND, "key": KEY, "fields": {FIELD: TEXT, ..}}
 abbrev pub put_of : Data → Option Edit
@@ -52,7 +58,9 @@ put_of d =
 
 -- {"remove": KIND, "key": KEY}
 abbrev pub remove_of : Data → Option Edit
-remove_of d = option_and_then (λ kind. option_map (Remove kind) (word_at (codes "key") is_key d)) (word_at (codes "remove") is_name d)
+remove_of d =
+    option_and_then (λ kind. option_map (Remove kind) (word_at (codes "key") is_key d))
+    (word_at (codes "remove") is_name d)
 
 -- the one or the other, with no other members
 abbrev pub change_of : Data → Option Edit
@@ -62,7 +70,8 @@ change_of d =
 
 -- the array of an object with the one member `changes`
 abbrev pub changes_of : Data → Option Items
-changes_of d = if nat_eq (count_of (as_object d)) 1 then option_and_then as_array (get (codes "changes") d) else None
+changes_of d =
+    if nat_eq (count_of (as_object d)) 1 then option_and_then as_array (get (codes "changes") d) else None
 
 abbrev pub Said : Type 0
 Said = Result Commit FeedRefusal
@@ -88,7 +97,7 @@ abbrev pub array_says : Option Items → Said
 array_says None = Err (Shape 0)
 array_says (Some ds) =
     if nat_eq (count_items ds) 0 then Err (Shape 0) else
-    (if nat_lt 256 (count_items ds) then Err (TooMany (count_items ds)) else each_from 1 ds)
+    (if nat_lt MAX_CHANGES (count_items ds) then Err (TooMany (count_items ds)) else each_from 1 ds)
 
 -- what a JSON value says
 abbrev pub data_says : Option Data → Said

@@ -65,7 +65,8 @@ fn fields(
     alloc: Global,
     members: &Map<String, Value>,
 ) -> Result<Option<Vec<(Name, Text)>>, NoMemory>
-    ensures value { IfOk result (λ read. option_map (λ fields. fields.items) read ≡ feed.fields_of (members_view members.now.entries)) }
+    ensures value { IfOk result (λ read.
+        option_map (λ fields. fields.items) read ≡ feed.fields_of (members_view members.now.entries)) }
     ensures rising { IfOk result (λ read. IfSome read (λ fields. IsTrue (rise fields.items))) }
 {
     let mut fields = Vec::with_capacity(alloc, members.len())?;

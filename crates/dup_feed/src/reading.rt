@@ -1,10 +1,13 @@
+// A feed message is read.
 ghost use Rattle.std.specs.Prelude.{◌≡◌, ◌≤◌, Ok, length, option_map, MatchResult};
 ghost use Rattle.serde_json.specs.View.{view, items_view};
+ghost use Rattle.dup_names.specs.declared.limits.TheConstants.{MAX_CHANGES};
 ghost use Rattle.dup_feed.specs.Feed as feed;
 ghost use Rattle.dup_feed.specs.Feed.{feed_says, Reads};
 
 use crate::change::{change, count};
 use crate::refusal::FeedRefusal;
+use dup_names::MAX_CHANGES;
 use dup_records::{Change, Commit};
 use serde_json::Value;
 use std::alloc::Global;
@@ -46,8 +49,9 @@ fn elements(value: &Value) -> Option<&[Value]>
 }
 
 fn changes(alloc: Global, elements: &[Value]) -> Result<Vec<Change>, FeedRefusal>
-    requires { length elements.now ≤ 256 }
-    ensures { MatchResult result (λ made. feed.each_from 1 (items_view elements.now) ≡ Ok made.items) (λ e. feed.Refuses e (feed.each_from 1 (items_view elements.now))) }
+    requires { length elements.now ≤ MAX_CHANGES }
+    ensures { MatchResult result (λ made. feed.each_from 1 (items_view elements.now) ≡ Ok made.items)
+        (λ e. feed.Refuses e (feed.each_from 1 (items_view elements.now))) }
 {
     let mut made = Vec::new(alloc);
     for i in 0..elements.len() {
@@ -69,7 +73,7 @@ fn commit_of(alloc: Global, value: &Value) -> Result<Commit, FeedRefusal>
     if elements.is_empty() {
         return Err(FeedRefusal::Shape(0));
     }
-    if elements.len() > 256 {
+    if elements.len() > MAX_CHANGES {
         return Err(FeedRefusal::TooMany(elements.len() as u64));
     }
     let changes = changes(alloc, elements)?;

@@ -1,5 +1,6 @@
 -- What the sources and sinks in memory hold, and which of their calls fail.
-use Rattle.std.specs.Prelude.{◌≡◌, ◌+◌, ◌-◌, ◌^◌, ◌&&◌, ◌||◌, ℕ, Bool, List, drop, length, min, nat_eq, nat_lt, nat_le, refl}
+use Rattle.std.specs.Prelude.{◌≡◌, ◌+◌, ◌-◌, ◌^◌, ◌&&◌, ◌||◌, ℕ, Bool, List, drop, length, min, nat_eq}
+use Rattle.std.specs.Prelude.{nat_lt, nat_le, refl}
 use Rattle.std.specs.List.{list_any}
 use Rattle.std.proofs.Common.{◌∙◌}
 use Rattle.dup_io.specs.declared.memory.MemorySource.{MemorySource}
@@ -57,10 +58,11 @@ sink_calls s = s.calls
 abbrev pub sink_faults : MemorySink → ℕ
 sink_faults s = s.faults
 
--- whether the next write fails, of these bytes: it is listed, or the room is full
-abbrev pub write_fails : MemorySink → List ℕ → Bool
-write_fails s bytes =
-    (nat_le (sink_room s) (length (sink_written s)) && nat_lt 0 (length bytes)) || list_any (λ n. nat_eq n (next_call (sink_calls s))) (sink_fails s)
+-- whether the next write fails: the room is full, or it is listed
+abbrev pub write_fails : MemorySink → Bool
+write_fails s =
+    nat_le (sink_room s) (length (sink_written s))
+    || list_any (λ n. nat_eq n (next_call (sink_calls s))) (sink_fails s)
 
 -- a read leaves the size of a piece and the list of the reads that fail
 pub record SameSource (before now : MemorySource) : Type 0 where
@@ -83,4 +85,5 @@ pub SameSink-refl : (x : MemorySink) → SameSink x x
 SameSink-refl x = record { room = refl; piece = refl; fails = refl }
 
 pub SameSink-trans : (x y z : MemorySink) → SameSink x y → SameSink y z → SameSink x z
-SameSink-trans x y z a b = record { room = b.room ∙ a.room; piece = b.piece ∙ a.piece; fails = b.fails ∙ a.fails }
+SameSink-trans x y z a b =
+    record { room = b.room ∙ a.room; piece = b.piece ∙ a.piece; fails = b.fails ∙ a.fails }

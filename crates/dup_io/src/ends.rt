@@ -61,13 +61,16 @@ pub trait Sink {
 
 /// An object that is both: a read keeps what it means as a sink, a write what it means as a source.
 pub trait Duplex: Source + Sink {
-    ghost read_keeps_written: { (x y : Self) → Self.Source.beside x y → Self.Sink.written y ≡ Self.Sink.written x };
+    ghost read_keeps_written: { (x y : Self) → Self.Source.beside x y
+        → Self.Sink.written y ≡ Self.Sink.written x };
 
-    ghost read_keeps_faults: { (x y : Self) → Self.Source.beside x y → Self.Sink.faults y ≡ Self.Sink.faults x };
+    ghost read_keeps_faults: { (x y : Self) → Self.Source.beside x y
+        → Self.Sink.faults y ≡ Self.Sink.faults x };
 
     ghost write_keeps_left: { (x y : Self) → Self.Sink.beside x y → Self.Source.left y ≡ Self.Source.left x };
 
-    ghost write_keeps_faults: { (x y : Self) → Self.Sink.beside x y → Self.Source.faults y ≡ Self.Source.faults x };
+    ghost write_keeps_faults: { (x y : Self) → Self.Sink.beside x y
+        → Self.Source.faults y ≡ Self.Source.faults x };
 }
 
 /// Writes all the bytes, or the first of them before a fault of the sink.

@@ -1,5 +1,6 @@
 // The lines of a source. A line ends with an LF or with the end of input; a CR before the LF is taken off.
-ghost use Rattle.std.specs.Prelude.{◌≡◌, ◌≢◌, ◌≤◌, ◌∷◌, [], ℕ, ◌+◌, length, OnOk, OnErr, IfOk, IfErr, IfSome, IsErrOf, IsNone, Err};
+ghost use Rattle.std.specs.Prelude.{◌≡◌, ◌≢◌, ◌≤◌, ◌∷◌, [], ℕ, ◌+◌, length, OnOk, OnErr, IfOk, IfErr, IfSome};
+ghost use Rattle.std.specs.Prelude.{IsErrOf, IsNone, Err};
 ghost use Rattle.std.specs.Io.KnownBytes.{Consumes, IsAtEnd, Keeps};
 ghost use Rattle.dup_io.specs.Causes.{HasCause, Rose};
 ghost use Rattle.dup_io.specs.Readings.{GivesLine, IsReading};
@@ -78,7 +79,8 @@ pub struct Lines<'s, S> {
 }
 
 impl<'s, S: Source> Lines<'s, S> {
-    ghost use Rattle.dup_io.specs.Lines.{ahead, to_read, source_of, reference_of, number_of, taken_of, fault_of};
+    ghost use Rattle.dup_io.specs.Lines.{ahead, to_read, source_of, reference_of, number_of, taken_of};
+    ghost use Rattle.dup_io.specs.Lines.{fault_of};
 
     /// A reader at the front of what this source has left. It takes no memory.
     pub fn new(source: &'s mut S) -> Lines<'s, S>
@@ -124,8 +126,11 @@ impl<'s, S: Source> Lines<'s, S> {
     /// The next byte, or `None` at the end of input.
     fn byte(&mut self) -> Result<Option<u8>, Failed>
         ensures same_reference { self.new.source.ghost_name ≡ self.old.source.ghost_name }
-        ensures some { IfOk result (λ o. IfSome o (λ b. Consumes (ahead S.left self.old) (ahead S.left self.new) (b ∷ []))) }
-        ensures none { IfOk result (λ o. IsNone o → Keeps (ahead S.left self.old) (ahead S.left self.new) × IsAtEnd (ahead S.left self.new)) }
+        ensures some { IfOk result (λ o.
+            IfSome o (λ b. Consumes (ahead S.left self.old) (ahead S.left self.new) (b ∷ []))) }
+        ensures none { IfOk result (λ o.
+            IsNone o → Keeps (ahead S.left self.old) (ahead S.left self.new)
+            × IsAtEnd (ahead S.left self.new)) }
         ensures at_end { IfOk result (λ o. IsNone o → IsAtEnd (S.left self.new.source.now)) }
         ensures cause { HasCause (S.faults self.old.source.now) (S.faults self.new.source.now) result }
         ensures beside { S.beside self.old.source.now self.new.source.now }
@@ -145,15 +150,23 @@ impl<'s, S: Source> Lines<'s, S> {
     /// Takes the next line off the input, or says that there is none.
     fn read_line(&mut self, alloc: Global) -> Result<Option<Line>, LineFault>
         ensures same_reference { self.new.source.ghost_name ≡ self.old.source.ghost_name }
-        ensures line { IfOk result (λ o. IfSome o (λ line. GivesLine (to_read S.left self.old) (to_read S.left self.new) line.bytes.items)) }
-        ensures number { IfOk result (λ o. IfSome o (λ line. (line.number ≡ self.old.number + 1) × (self.new.number ≡ line.number))) }
+        ensures line { IfOk result (λ o.
+            IfSome o (λ line.
+            GivesLine (to_read S.left self.old) (to_read S.left self.new) line.bytes.items)) }
+        ensures number { IfOk result (λ o.
+            IfSome o (λ line. (line.number ≡ self.old.number + 1) × (self.new.number ≡ line.number))) }
         ensures end { IfOk result (λ o. IsNone o → IsReading (to_read S.left self.old) Whole) }
         ensures at_end { IfOk result (λ o. IsNone o → IsAtEnd (S.left self.new.source.now)) }
-        ensures line_too_long { IfErr result (λ e. (n : ℕ) → e ≡ LineFault.LineTooLong n → (n ≡ self.old.number + 1) × IsReading (to_read S.left self.old) (LongLine n)) }
-        ensures input_too_long { IsErrOf result LineFault.InputTooLong → IsReading (to_read S.left self.old) LongInput }
-        ensures read_fault { IsErrOf result LineFault.ReadFault → Rose (S.faults self.old.source.now) (S.faults self.new.source.now) }
+        ensures line_too_long { IfErr result
+            (λ e. (n : ℕ) → e ≡ LineFault.LineTooLong n
+            → (n ≡ self.old.number + 1) × IsReading (to_read S.left self.old) (LongLine n)) }
+        ensures input_too_long { IsErrOf result LineFault.InputTooLong
+            → IsReading (to_read S.left self.old) LongInput }
+        ensures read_fault { IsErrOf result LineFault.ReadFault
+            → Rose (S.faults self.old.source.now) (S.faults self.new.source.now) }
         ensures faults { S.faults self.old.source.now ≤ S.faults self.new.source.now }
-        ensures no_fault { result ≢ Err LineFault.ReadFault → S.faults self.new.source.now ≡ S.faults self.old.source.now }
+        ensures no_fault { result ≢ Err LineFault.ReadFault
+            → S.faults self.new.source.now ≡ S.faults self.old.source.now }
         ensures beside { S.beside self.old.source.now self.new.source.now }
         ensures fault { self.new.fault ≡ self.old.fault }
     {
@@ -190,16 +203,26 @@ impl<'s, S: Source> Lines<'s, S> {
         ensures same_reference { reference_of self.new ≡ reference_of self.old }
         ensures ok { OnOk result ((fault_of self.old ≡ None) × (fault_of self.new ≡ None)) }
         ensures sticks { IfErr result (λ e. fault_of self.new ≡ Some e) }
-        ensures again { IfSome (fault_of self.old) (λ e. (result ≡ Err e) × (S.faults (source_of self.new) ≡ S.faults (source_of self.old))) }
-        ensures line { IfOk result (λ o. IfSome o (λ line. GivesLine (to_read S.left self.old) (to_read S.left self.new) line.bytes.items)) }
-        ensures number { IfOk result (λ o. IfSome o (λ line. (line.number ≡ number_of self.old + 1) × (number_of self.new ≡ line.number))) }
+        ensures again { IfSome (fault_of self.old)
+            (λ e. (result ≡ Err e) × (S.faults (source_of self.new) ≡ S.faults (source_of self.old))) }
+        ensures line { IfOk result (λ o.
+            IfSome o (λ line.
+            GivesLine (to_read S.left self.old) (to_read S.left self.new) line.bytes.items)) }
+        ensures number { IfOk result (λ o.
+            IfSome o (λ line. (line.number ≡ number_of self.old + 1) × (number_of self.new ≡ line.number))) }
         ensures end { IfOk result (λ o. IsNone o → IsReading (to_read S.left self.old) Whole) }
         ensures at_end { IfOk result (λ o. IsNone o → IsAtEnd (S.left (source_of self.new))) }
-        ensures line_too_long { fault_of self.old ≡ None → IfErr result (λ e. (n : ℕ) → e ≡ LineFault.LineTooLong n → (n ≡ number_of self.old + 1) × IsReading (to_read S.left self.old) (LongLine n)) }
-        ensures input_too_long { fault_of self.old ≡ None → IsErrOf result LineFault.InputTooLong → IsReading (to_read S.left self.old) LongInput }
-        ensures read_fault { fault_of self.old ≡ None → IsErrOf result LineFault.ReadFault → Rose (S.faults (source_of self.old)) (S.faults (source_of self.new)) }
+        ensures line_too_long { fault_of self.old ≡ None
+            → IfErr result
+            (λ e. (n : ℕ) → e ≡ LineFault.LineTooLong n
+            → (n ≡ number_of self.old + 1) × IsReading (to_read S.left self.old) (LongLine n)) }
+        ensures input_too_long { fault_of self.old ≡ None → IsErrOf result LineFault.InputTooLong
+            → IsReading (to_read S.left self.old) LongInput }
+        ensures read_fault { fault_of self.old ≡ None → IsErrOf result LineFault.ReadFault
+            → Rose (S.faults (source_of self.old)) (S.faults (source_of self.new)) }
         ensures faults { S.faults (source_of self.old) ≤ S.faults (source_of self.new) }
-        ensures no_fault { result ≢ Err LineFault.ReadFault → S.faults (source_of self.new) ≡ S.faults (source_of self.old) }
+        ensures no_fault { result ≢ Err LineFault.ReadFault
+            → S.faults (source_of self.new) ≡ S.faults (source_of self.old) }
         ensures beside { S.beside (source_of self.old) (source_of self.new) }
     {
         if let Some(fault) = self.fault {

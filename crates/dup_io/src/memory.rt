@@ -1,5 +1,7 @@
-// Sources and sinks in memory. They move at most a piece for each call, and fail the calls whose numbers are listed.
-ghost use Rattle.std.specs.Prelude.{◌≡◌, ◌≤◌, ◌<◌, ◌||◌, [], List, ℕ, drop, length, min, ◌-◌, Some, IfOk, OnOk, OnErr, is_err, vec_capacity};
+// Sources and sinks in memory. They move at most a piece for each call, and fail the calls whose numbers are
+// listed.
+ghost use Rattle.std.specs.Prelude.{◌≡◌, ◌≤◌, ◌<◌, ◌||◌, [], List, ℕ, drop, length, min, ◌-◌, Some, IfOk};
+ghost use Rattle.std.specs.Prelude.{OnOk, OnErr, is_err, vec_capacity};
 ghost use Rattle.std.specs.Io.{ReadsAtMost};
 ghost use Rattle.std.specs.Io.KnownBytes.{ReadConsumes, WriteAppends};
 ghost use Rattle.dup_io.specs.Causes.{HasCause, Rose, TakesSome};
@@ -23,7 +25,8 @@ pub struct MemorySource {
 }
 
 impl MemorySource {
-    ghost use Rattle.dup_io.specs.Memory.{source_left, source_piece, source_fails, source_calls, source_faults};
+    ghost use Rattle.dup_io.specs.Memory.{source_left, source_piece, source_fails, source_calls};
+    ghost use Rattle.dup_io.specs.Memory.{source_faults};
 
     /// A source of these bytes. A read gives at most `piece` of them, and the reads whose numbers,
     /// counted from 1, are in `fails` fail.
@@ -47,7 +50,8 @@ impl MemorySource {
 }
 
 impl Source for MemorySource {
-    ghost use Rattle.dup_io.specs.Memory.{read_fails, source_calls, source_faults, source_left, source_piece, next_call, SameSource, SameSource-refl, SameSource-trans};
+    ghost use Rattle.dup_io.specs.Memory.{read_fails, source_calls, source_faults, source_left, source_piece};
+    ghost use Rattle.dup_io.specs.Memory.{next_call, SameSource, SameSource-refl, SameSource-trans};
 
     ghost left = { λ s. Some (source_left s) };
 
@@ -61,12 +65,14 @@ impl Source for MemorySource {
 
     fn read(&mut self, into: &mut [u8]) -> Result<usize, Failed>
         ensures bound { ReadsAtMost result into.new }
-        ensures bytes { ReadConsumes (Some (source_left self.old)) (Some (source_left self.new)) result into.new }
+        ensures bytes { ReadConsumes (Some (source_left self.old))
+            (Some (source_left self.new)) result into.new }
         ensures cause { HasCause (source_faults self.old) (source_faults self.new) result }
         ensures beside { SameSource self.old self.new }
         ensures calls { source_calls self.new ≡ next_call (source_calls self.old) }
         ensures fails { is_err result ≡ read_fails self.old }
-        ensures count { IfOk result (λ n. n ≡ min (min (length (source_left self.old)) (source_piece self.old)) (length into.old)) }
+        ensures count { IfOk result (λ n.
+            n ≡ min (min (length (source_left self.old)) (source_piece self.old)) (length into.old)) }
     {
         self.calls = self.calls.saturating_add(1);
         if self.fails.contains(&self.calls) {
@@ -97,7 +103,8 @@ pub struct MemorySink {
 }
 
 impl MemorySink {
-    ghost use Rattle.dup_io.specs.Memory.{sink_written, sink_room, sink_piece, sink_fails, sink_calls, sink_faults};
+    ghost use Rattle.dup_io.specs.Memory.{sink_written, sink_room, sink_piece, sink_fails, sink_calls};
+    ghost use Rattle.dup_io.specs.Memory.{sink_faults};
 
     /// A sink with room for so many bytes, which is taken here. A write takes at most `piece` bytes;
     /// the writes whose numbers, counted from 1, are in `fails` fail, and so does one that finds the
@@ -131,7 +138,8 @@ impl MemorySink {
 }
 
 impl Sink for MemorySink {
-    ghost use Rattle.dup_io.specs.Memory.{next_call, sink_calls, sink_faults, sink_piece, sink_room, sink_written, write_fails, SameSink, SameSink-refl, SameSink-trans};
+    ghost use Rattle.dup_io.specs.Memory.{next_call, sink_calls, sink_faults, sink_piece, sink_room};
+    ghost use Rattle.dup_io.specs.Memory.{sink_written, write_fails, SameSink, SameSink-refl, SameSink-trans};
 
     ghost written = { λ s. Some (sink_written s) };
 
@@ -145,16 +153,19 @@ impl Sink for MemorySink {
 
     fn write(&mut self, from: &[u8]) -> Result<usize, Failed>
         ensures count { TakesSome result from.now }
-        ensures bytes { WriteAppends (Some (sink_written self.old)) (Some (sink_written self.new)) result from.now }
+        ensures bytes { WriteAppends (Some (sink_written self.old))
+            (Some (sink_written self.new)) result from.now }
         ensures cause { HasCause (sink_faults self.old) (sink_faults self.new) result }
         ensures beside { SameSink self.old self.new }
         ensures calls { sink_calls self.new ≡ next_call (sink_calls self.old) }
-        ensures fails { is_err result ≡ write_fails self.old from.now }
-        ensures exact { IfOk result (λ n. n ≡ min (min (sink_piece self.old) (length from.now)) (sink_room self.old - length (sink_written self.old))) }
+        ensures fails { is_err result ≡ write_fails self.old }
+        ensures exact { IfOk result (λ n.
+            n ≡ min (min (sink_piece self.old) (length from.now))
+            (sink_room self.old - length (sink_written self.old))) }
     {
         self.calls = self.calls.saturating_add(1);
         let room = self.room - self.bytes.len();
-        let is_full = room == 0 && !from.is_empty();
+        let is_full = room == 0;
         let count = self.piece.min(from.len()).min(room);
         if is_full
             || self.fails.contains(&self.calls)

@@ -1,7 +1,10 @@
 // One object in memory that is a source and a sink.
 ghost use Rattle.std.specs.Prelude.{◌≡◌, Some};
 ghost use Rattle.dup_io.specs.Memory.{source_left, source_faults, sink_written, sink_faults};
-ghost use Rattle.dup_io.specs.MemoryLine.{line_sink, line_source, SameBesideSource, SameBesideSource-refl, SameBesideSource-trans, SameBesideSink, SameBesideSink-refl, SameBesideSink-trans, source_left_of, source_faults_of, sink_written_of, sink_faults_of};
+ghost use Rattle.dup_io.specs.MemoryLine.{line_sink, line_source, SameBesideSource, SameBesideSource-refl};
+ghost use Rattle.dup_io.specs.MemoryLine.{SameBesideSource-trans, SameBesideSink, SameBesideSink-refl};
+ghost use Rattle.dup_io.specs.MemoryLine.{SameBesideSink-trans, source_left_of, source_faults_of};
+ghost use Rattle.dup_io.specs.MemoryLine.{sink_written_of, sink_faults_of};
 
 use crate::ends::{Duplex, Failed, Sink, Source};
 use crate::memory::{MemorySink, MemorySource};

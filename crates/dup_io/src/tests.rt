@@ -25,12 +25,12 @@ fn lines_are(
         let Some(line) = reader.next(alloc)? else {
             return Err(Fail::from("a line is missing"));
         };
-        assert_eq!(rt; line.bytes.as_slice(), *want);
+        assert_eq!(rt; line.bytes.as_slice(), *want, "in pieces of {piece}");
     }
     for _ in 0..2 {
         match reader.next(alloc) {
             Ok(line) => assert!(rt; line.is_none() && end.is_ok()),
-            Err(fault) => assert_eq!(rt; Err(fault), end),
+            Err(fault) => assert_eq!(rt; Err(fault), end, "in pieces of {piece}"),
         }
     }
     Ok(())
@@ -83,7 +83,7 @@ fn faults_are_told(rt: HostRuntime) -> Result<(), Fail> {
         (LineFault::InputTooLong, "the input is too long"),
         (LineFault::NoMemory, "out of memory"),
     ] {
-        assert_eq!(rt; fault.to_string(alloc)?.as_str(), text);
+        assert_eq!(rt; fault.to_string(alloc)?.as_str(), text, "at {fault:?}");
     }
     assert_eq!(rt;
         Failed.to_string(alloc)?.as_str(),

@@ -29,7 +29,7 @@ use Rattle.dup_model.specs.Answers.{Reply, answer}
 use Rattle.dup_machine.specs.World.{World, Told, Event, answered}
 use Rattle.dup_machine.specs.World.Told.{NothingChanged, NodeMade, NodeTaken, NoNode}
 use Rattle.dup_machine.specs.World.Event.{Comes, Begin, Hand, Put, Join, Finish, Publish, Node, Deliver, Request, Evict}
-use Rattle.dup_machine.specs.Press.{published_by, published}
+use Rattle.dup_machine.specs.Press.{press_of, published_by, published}
 use Rattle.dup_machine.specs.Presses.{version_of}
 use Rattle.dup_machine.specs.Nodes.{with_node, node_made, delivered, requested, evicted}
 use Rattle.dup_machine.specs.Run.{step}
@@ -223,7 +223,7 @@ module _ (site : Parts) (limits : Limits) where
         IsFit (published_by (target_at site w.commits version) version chosen w) × Steps w Publish (published_by (target_at site w.commits version) version chosen w)
     unfolding new_commits
     fit_published None is = (
-      record { good = fit.good; timely = timely_work site w _ refl refl refl fit.timely.work_within fit.timely; caches = fit.caches },
+      record { good = fit.good; timely = timely_work site (press_of w) _ refl refl refl fit.timely.work_within fit.timely; caches = fit.caches },
       record { more = []; log = no_more w.log; reply = NothingChanged; told_it = refl; fair = tt; caches = fit.caches },
     )
     fit_published (Some paths) is =
@@ -251,7 +251,7 @@ module _ (site : Parts) (limits : Limits) where
   fit_unpublished : (w : World) → IsFit w → w.log ≡ [] → (chosen : Option (List Path)) → bundle (edition w.log) fin.empty ≡ chosen →
       IsFit (published_by fin.empty 0 chosen w) × Steps w Publish (published_by fin.empty 0 chosen w)
   fit_unpublished w fit none None is = (
-    record { good = fit.good; timely = timely_work site w _ refl refl refl fit.timely.work_within fit.timely; caches = fit.caches },
+    record { good = fit.good; timely = timely_work site (press_of w) _ refl refl refl fit.timely.work_within fit.timely; caches = fit.caches },
     record { more = []; log = no_more w.log; reply = NothingChanged; told_it = refl; fair = tt; caches = fit.caches },
   )
   fit_unpublished w fit none (Some paths) is = absurd (nothing_of_nothing paths (ap (λ l. bundle (edition l) fin.empty) (sym none) ∙ is))
@@ -269,7 +269,7 @@ module _ (site : Parts) (limits : Limits) where
   fit_nodes w ev new fit same s = (
     record {
       good = subst (IsGoodLog site) (sym same.log) fit.good;
-      timely = timely_work site w new same.commits same.target same.log (rw (same.commits, same.target, same.work) fit.timely.work_within) fit.timely;
+      timely = timely_work site (press_of w) (press_of new) same.commits same.target same.log (rw (same.commits, same.target, same.work) fit.timely.work_within) fit.timely;
       caches = s.caches;
     },
     s,

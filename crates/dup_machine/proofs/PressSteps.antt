@@ -22,22 +22,16 @@ use Rattle.dup_model.specs.Found.{waiting}
 use Rattle.dup_model.specs.Expansions.{notes, stale}
 use Rattle.dup_machine.specs.Works.{unjoined, level, first_work, work_from, moved, next_of}
 use Rattle.dup_machine.proofs.WorldSteps.{begun_next, begun_open, put_asked}
-use Rattle.dup_machine.specs.Press.{at, committed, opened, begun, handed_to, handed, kept, put_back, put_from, joined_by, joined, finished_by, finished}
-use Rattle.dup_machine.specs.Presses.{version_of}
+use Rattle.dup_machine.specs.Press.{at, press_of, committed, opened, begun, handed_to, handed, kept, put_back, put_from, joined_by, joined, finished_by, finished}
+use Rattle.dup_machine.specs.Presses.{Press, version_of}
+use Rattle.dup_machine.specs.Timely as timely
+use Rattle.dup_machine.specs.Timely.{IsWorkWithin}
 use Rattle.dup_model.proofs.Lists.{length_snoc, front_longer}
 use Rattle.dup_model.proofs.Histories.{fits_unless_refused, history_push}
 
-abbrev pub IsWorkWithin : Option Work → ℕ → ℕ → Type 0
-IsWorkWithin None low high = ⊤
-IsWorkWithin (Some work) low high = (low ≤ work.version) × (work.version ≤ high)
-
--- the commits, the target and the work fit the log
-pub record IsTimely (site : Parts) (w : World) : Type 0 where
-  pub allowed : IsHistory site w.commits
-  pub covered : (rest : List Commit) × (history w.log ++ rest ≡ take (version_of w.target) w.commits)
-  pub target_within : version_of w.target ≤ length w.commits
-  pub work_within : IsWorkWithin w.work (version_of w.target) (length w.commits)
-  pub unpublished : w.target ≡ None → w.log ≡ []
+-- what holds of the press of a world
+abbrev pub IsTimely : Parts → World → Type 0
+IsTimely site w = timely.IsTimely site (press_of w)
 
 -- the answer to a request, if it is one
 abbrev pub reply_of : Told → Option Reply
@@ -146,7 +140,7 @@ module _ (site : Parts) where
   }
 
   -- a step that changes the work alone
-  pub timely_work : (w new : World) → new.commits ≡ w.commits → new.target ≡ w.target → new.log ≡ w.log → IsWorkWithin new.work (version_of new.target) (length new.commits) → IsTimely site w → IsTimely site new
+  pub timely_work : (w new : Press) → new.commits ≡ w.commits → new.target ≡ w.target → new.log ≡ w.log → IsWorkWithin new.work (version_of new.target) (length new.commits) → timely.IsTimely site w → timely.IsTimely site new
   timely_work w new c t l within old = record {
     allowed = subst (IsHistory site) (sym c) old.allowed;
     covered = (old.covered.0, rw (c, t, l) old.covered.1);
@@ -160,61 +154,61 @@ module _ (site : Parts) where
   timely_if false x y p q = q
 
   timely_opened : (work : Work) (w : World) → (version_of w.target ≤ work.version) × (work.version ≤ length w.commits) → IsTimely site w → IsTimely site (opened site work w)
-  timely_opened work w within t = timely_work w _ refl refl refl within t
+  timely_opened work w within t = timely_work (press_of w) _ refl refl refl within t
 
   pub timely_begun : (work : Option Work) (target : Option ℕ) (w : World) → IsTimely site w → IsTimely site (begun site work target w)
   timely_begun (Some work) target w t =
       subst (IsTimely site) (sym (begun_open site work target w)) (timely_if (work.version == length w.commits) _ _
-      (timely_work w _ refl refl refl t.work_within t)
+      (timely_work (press_of w) _ refl refl refl t.work_within t)
       (timely_opened (moved (at site w work.version) (length w.commits) (content site w.commits) work) w (t.target_within, omega arith) t))
   timely_begun None None w t = timely_opened (first_work (length w.commits)) w (t.target_within, omega arith) t
   timely_begun None (Some a) w t =
       subst (IsTimely site) (sym (begun_next site a w)) (timely_if (a == length w.commits) _ _
-      (timely_work w _ refl refl refl t.work_within t)
+      (timely_work (press_of w) _ refl refl refl t.work_within t)
       (timely_opened (work_from (at site w a) (length w.commits) (content site w.commits)) w (t.target_within, omega arith) t))
 
   work_at : (work : Work) (w : World) → w.work ≡ Some work → IsTimely site w → (version_of w.target ≤ work.version) × (work.version ≤ length w.commits)
   work_at work w is t = subst (λ work. IsWorkWithin work (version_of w.target) (length w.commits)) is t.work_within
 
   timely_handed_to : (slot : ℕ) (work : Work) (o : Option Obj) (w : World) → w.work ≡ Some work → IsTimely site w → IsTimely site (handed_to site slot work o w)
-  timely_handed_to slot work None w is t = timely_work w _ refl refl refl t.work_within t
-  timely_handed_to slot work (Some o) w is t = timely_work w _ refl refl refl (work_at work w is t) t
+  timely_handed_to slot work None w is t = timely_work (press_of w) _ refl refl refl t.work_within t
+  timely_handed_to slot work (Some o) w is t = timely_work (press_of w) _ refl refl refl (work_at work w is t) t
 
   pub timely_handed : (slot : ℕ) (work : Option Work) (held : Option Slot) (w : World) → w.work ≡ work → IsTimely site w → IsTimely site (handed site slot work held w)
-  timely_handed slot work (Some held) w is t = timely_work w _ refl refl refl t.work_within t
-  timely_handed slot None None w is t = timely_work w _ refl refl refl t.work_within t
+  timely_handed slot work (Some held) w is t = timely_work (press_of w) _ refl refl refl t.work_within t
+  timely_handed slot None None w is t = timely_work (press_of w) _ refl refl refl t.work_within t
   timely_handed slot (Some work) None w is t = timely_handed_to slot work (next_of work.last_handed (waiting (at site w work.version) work.done)) w is t
 
   timely_kept : (c : Content) (o : Obj) (work : Work) (why : Option (Item × Value)) (w : World) → w.work ≡ Some work → IsTimely site w → IsTimely site (kept c o work why w)
-  timely_kept c o work (Some note) w is t = timely_work w _ refl refl refl t.work_within t
-  timely_kept c o work None w is t = timely_work w _ refl refl refl (work_at work w is t) t
+  timely_kept c o work (Some note) w is t = timely_work (press_of w) _ refl refl refl t.work_within t
+  timely_kept c o work None w is t = timely_work (press_of w) _ refl refl refl (work_at work w is t) t
 
   pub timely_put_back : (o : Obj) (ns : List (Item × Value)) (work : Option Work) (w : World) → w.work ≡ work → IsTimely site w → IsTimely site (put_back site o ns work w)
-  timely_put_back o ns None w is t = timely_work w _ refl refl refl t.work_within t
+  timely_put_back o ns None w is t = timely_work (press_of w) _ refl refl refl t.work_within t
   timely_put_back o ns (Some work) w is t =
       subst (IsTimely site) (sym (put_asked site o ns work w)) (timely_if (is_in (waiting (at site w work.version) work.done) o) _ _
       (timely_kept (at site w work.version) o work (stale (at site w work.version) ns) w is t)
-      (timely_work w _ refl refl refl t.work_within t))
+      (timely_work (press_of w) _ refl refl refl t.work_within t))
 
   pub timely_put_from : (slot : ℕ) (held : Option Slot) (w : World) → IsTimely site w → IsTimely site (put_from site slot held w)
-  timely_put_from slot None w t = timely_work w _ refl refl refl t.work_within t
+  timely_put_from slot None w t = timely_work (press_of w) _ refl refl refl t.work_within t
   timely_put_from slot (Some held) w t =
       let emptied : World = record w { slots = fin.remove w.slots slot } in
-      timely_put_back held.obj (notes (at site w held.version) held.obj) w.work emptied refl (timely_work w emptied refl refl refl t.work_within t)
+      timely_put_back held.obj (notes (at site w held.version) held.obj) w.work emptied refl (timely_work (press_of w) (press_of emptied) refl refl refl t.work_within t)
 
   timely_joined_by : (work : Work) (os us level : List Obj) (w : World) → w.work ≡ Some work → IsTimely site w → IsTimely site (joined_by site work os us level w)
-  timely_joined_by work (o ∷ os) us level w is t = timely_work w _ refl refl refl t.work_within t
-  timely_joined_by work [] [] level w is t = timely_work w _ refl refl refl t.work_within t
-  timely_joined_by work [] (u ∷ us) level w is t = timely_work w _ refl refl refl (work_at work w is t) t
+  timely_joined_by work (o ∷ os) us level w is t = timely_work (press_of w) _ refl refl refl t.work_within t
+  timely_joined_by work [] [] level w is t = timely_work (press_of w) _ refl refl refl t.work_within t
+  timely_joined_by work [] (u ∷ us) level w is t = timely_work (press_of w) _ refl refl refl (work_at work w is t) t
 
   pub timely_joined : (work : Option Work) (w : World) → w.work ≡ work → IsTimely site w → IsTimely site (joined site work w)
-  timely_joined None w is t = timely_work w _ refl refl refl t.work_within t
+  timely_joined None w is t = timely_work (press_of w) _ refl refl refl t.work_within t
   timely_joined (Some work) w is t =
       timely_joined_by work (waiting (at site w work.version) work.done) (unjoined (at site w work.version) work) (level (at site w work.version) work) w is t
 
   timely_finished_by : (c : Content) (work : Work) (os us : List Obj) (w : World) → w.work ≡ Some work → IsTimely site w → IsTimely site (finished_by c work os us w)
-  timely_finished_by c work (o ∷ os) us w is t = timely_work w _ refl refl refl t.work_within t
-  timely_finished_by c work [] (u ∷ us) w is t = timely_work w _ refl refl refl t.work_within t
+  timely_finished_by c work (o ∷ os) us w is t = timely_work (press_of w) _ refl refl refl t.work_within t
+  timely_finished_by c work [] (u ∷ us) w is t = timely_work (press_of w) _ refl refl refl t.work_within t
   timely_finished_by c work [] [] w is t =
       let within : (version_of w.target ≤ work.version) × (work.version ≤ length w.commits) = work_at work w is t in
       record {
@@ -230,6 +224,6 @@ module _ (site : Parts) where
       }
 
   pub timely_finished : (work : Option Work) (w : World) → w.work ≡ work → IsTimely site w → IsTimely site (finished site work w)
-  timely_finished None w is t = timely_work w _ refl refl refl t.work_within t
+  timely_finished None w is t = timely_work (press_of w) _ refl refl refl t.work_within t
   timely_finished (Some work) w is t =
       timely_finished_by (at site w work.version) work (waiting (at site w work.version) work.done) (unjoined (at site w work.version) work) w is t

@@ -19,6 +19,7 @@ use Rattle.dup_model.specs.Answers.{Reply}
 use Rattle.dup_model.specs.Answers.Reply.{Found, Absent, Ahead}
 use Rattle.dup_machine.specs.World.{World, Event, Told, first_world}
 use Rattle.dup_machine.specs.Presses.{version_of}
+use Rattle.dup_machine.specs.Timely.{PressesAreTimely}
 use Rattle.dup_machine.specs.Run.{step, run}
 use Rattle.dup_machine.specs.Headline.{EachEventIsAnswered, LogGrows, Replied, LogIsGood, RepliesAreTrue, AheadIsTrue, SettledIsWhole, Headline}
 use Rattle.dup_model.proofs.Lists.{get_snoc, get_last, get_back, length_snoc, take_all_snoc}
@@ -166,3 +167,6 @@ log_grows site limits events i = elim (short_or_long i events) [
   | inl short ↦ (is_run site limits events).grown i short
   | inr all ↦ ([], sym (no_more _) ∙ ap (λ l. (run site limits l).log) all)
 ]
+
+pub presses_are_timely : PressesAreTimely
+presses_are_timely site limits events = (is_run site limits events).fit.timely

@@ -8,3 +8,4 @@ pub mod Run
 pub mod Status
 pub mod Headline
 pub mod Settle
+pub mod Timely

@@ -1,4 +1,5 @@
 ghost use Rattle.dup_machine.specs.Headline.{Headline, EachEventIsAnswered, LogGrows};
+ghost use Rattle.dup_machine.specs.Timely.{PressesAreTimely};
 ghost use Rattle.dup_machine.specs.Status.{PendingIsTold};
 ghost use Rattle.dup_machine.specs.Settle.{SettleReports, NothingIsDone, SettleResumes, PublishEnds, SettleEnds};
 
@@ -7,10 +8,11 @@ pub fn headline()
     ensures { Headline }
 {}
 
-/// How replies and the log of a run grow.
+/// How replies and the log of a run grow, and what holds of its press.
 pub fn runs_law()
     ensures replies { EachEventIsAnswered }
     ensures log { LogGrows }
+    ensures timely { PressesAreTimely }
 {}
 
 /// A status says that something is pending exactly where something is.

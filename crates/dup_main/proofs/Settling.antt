@@ -26,7 +26,8 @@ use Rattle.dup_main.specs.declared.session.Session.{Session as Kept}
 use Rattle.dup_main.specs.Kept.{Acts, IsReady, KeepsPages, page_of}
 use Rattle.dup_transcript.specs.RowCounts.{CountsRows, IsSettledOf, renewed_count}
 use Rattle.dup_transcript.specs.RowPages.{HasRowPages, row_page}
-use Rattle.dup_transcript.specs.Sessions.{Published, with_pages, settled_edition, whole_site, has_node}
+use Rattle.dup_transcript.specs.Sessions.{Published, with_pages, settled_edition, has_node}
+use Rattle.dup_model.specs.Pages.{page_looks}
 use Rattle.dup_transcript.specs.Texts.{found_text, settled_text}
 use Rattle.dup_transcript.proofs.RowCountLemmas.{rows_counted}
 use Rattle.dup_transcript.proofs.RowPageLemmas.{row_pages}
@@ -79,7 +80,7 @@ settle_acts r c e text of ready below is put same said = λ s k.
     let rise : TablesRise r.content = subst TablesRise (sym k.content) (versions_rise site s.commits) in
     let pages : HasRowPages site r.content = row_pages site r.content ready.form ready.of_site rise in
     let start : Published = record { number = s.number; edition = s.edition } in
-    let all : map (row_page site r.content) (keys r.content 0) ≡ whole_site last = sym pages.pages ∙ ap whole_site k.content in
+    let all : map (row_page site r.content) (keys r.content 0) ≡ page_looks last = sym pages.pages ∙ ap page_looks k.content in
     let kept : KeepsPages (settled_edition site s) e =
     subst (λ (l : List (Path × Look)). KeepsPages (with_pages (length s.commits) l start) e) all
     (subst (λ (v : ℕ). KeepsPages (with_pages v (map (row_page site r.content) (keys r.content 0)) start) e) k.version (subst (λ (p : Parts). KeepsPages (with_pages r.version (map (row_page p r.content) (keys r.content 0)) start) e) is (put start k.edition))) in

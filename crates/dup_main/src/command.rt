@@ -9,9 +9,9 @@ ghost use Rattle.dup_transcript.specs.Numbers.{number_of};
 use crate::number::read_number;
 use dup_feed::{FeedRefusal, read_commit};
 use dup_model::{Edit, Mode};
-use dup_transcript::Command;
 use dup_names::{NoMemory, Path, are_spaces, is_word, trimmed, words_of};
 use dup_records::{Change, Commit};
+use dup_transcript::Command;
 use std::alloc::Global;
 
 fn read_mode(word: &[u8]) -> Option<Mode>

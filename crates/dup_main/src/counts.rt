@@ -3,7 +3,7 @@ ghost use Rattle.std.specs.List.{list_all, list_any};
 ghost use Rattle.dup_names.specs.Words.{same};
 ghost use Rattle.dup_model.specs.Content.{body_at, table};
 ghost use Rattle.dup_transcript.specs.FirstForm.{is_simple};
-ghost use Rattle.dup_transcript.specs.RowCounts.{IsSimple, is_read_anew, is_renewed, renewed_count};
+ghost use Rattle.dup_transcript.specs.RowCounts.{IsSimple, is_touched_at, is_renewed, renewed_count};
 
 use dup_names::Key;
 use dup_records::Content;
@@ -26,9 +26,9 @@ fn body_of(content: &Content) -> &[Statement]
 }
 
 #[tactic(auto, using(crate::proofs::RowReads::simple_reads))]
-fn is_read_anew(a: &Content, b: &Content, key: &Key, statement: &Statement) -> bool
+fn is_touched_at(a: &Content, b: &Content, key: &Key, statement: &Statement) -> bool
     requires { is_simple statement.now ≡ true }
-    ensures { result ≡ is_read_anew a.now b.now key.now statement.now }
+    ensures { result ≡ is_touched_at a.now b.now key.now statement.now }
 {
     match statement {
         Statement::Field(name) => {
@@ -41,10 +41,10 @@ fn is_read_anew(a: &Content, b: &Content, key: &Key, statement: &Statement) -> b
 
 fn is_touched(a: &Content, b: &Content, key: &Key) -> bool
     requires { list_all is_simple (body_at a.now 0) ≡ true }
-    ensures { result ≡ list_any (is_read_anew a.now b.now key.now) (body_at a.now 0) }
+    ensures { result ≡ list_any (is_touched_at a.now b.now key.now) (body_at a.now 0) }
 {
     for statement in body_of(a) {
-        if is_read_anew(a, b, key, statement) {
+        if is_touched_at(a, b, key, statement) {
             return true;
         }
     }

@@ -167,7 +167,7 @@ impl Session {
     pub(crate) fn act(
         &mut self,
         alloc: Global,
-        number: u64,
+        at_line: u64,
         command: Command<Commit>,
     ) -> Result<Vec<u8>, NoMemory>
         requires ready { IsReady self.old }
@@ -176,7 +176,7 @@ impl Session {
         requires number { self.old.edition.number < 2 ^ 62 }
         ensures site { self.new.site.value ≡ self.old.site.value }
         ensures ready { IsReady self.new }
-        ensures acts { IfOk result (λ text. Acts self.old self.new number command text.items) }
+        ensures acts { IfOk result (λ text. Acts self.old self.new at_line command text.items) }
         ensures version { self.new.version ≤ self.old.version + 1 }
         ensures number { self.new.edition.number ≤ self.old.edition.number + self.old.version }
     {
@@ -190,7 +190,7 @@ impl Session {
                 mode,
             } => self.add_node(alloc, node, capacity, mode),
             Command::Get { node, pass, path } => self.get(alloc, node, pass, &path),
-            Command::NotBuilt => Ok(not_built(alloc, number)?.into_bytes()),
+            Command::NotBuilt => Ok(not_built(alloc, at_line)?.into_bytes()),
         }
     }
 }

@@ -16,8 +16,8 @@ use Rattle.dup_template.specs.declared.statement.Statement.{Statement}
 use Rattle.dup_template.specs.declared.statement.Statement.TheOpen.{Statement-F}
 use Rattle.dup_template.specs.declared.statement.Statement.TheVariants as s
 use Rattle.dup_template.specs.Good.{Fault, IsGood, unless, at_most, has, first_from, template_names, find_template, shown_by, shows_fault, page_fault, statement_fault, body_fault, field_fault, each_fault, embed_fault, link_fault, to_fault, is_current}
-use Rattle.dup_template.proofs.Facts.{or-none, unless-none, good-parts}
-use Rattle.dup_template.proofs.Rules.{template_rules, has_place, place_front}
+use Rattle.dup_template.proofs.GoodParts.{or-none, unless-none, good-parts}
+use Rattle.dup_template.proofs.GoodRules.{template_rules, has_place, place_front}
 use Rattle.dup_model.specs.Frame.{Head, Frame, frame_of, bodies_of}
 use Rattle.dup_model.specs.Content.{body_at}
 use Rattle.dup_model.specs.Names.{template_at, kind_of}

@@ -39,7 +39,7 @@ filled_before below (b ∷ bs) [] = refl
 filled_before below (b ∷ bs) (piece.Plain more ∷ ps) = ap (λ l. b ∷ l) (append_assoc bs more (flat_map (filled below) ps))
 filled_before below (b ∷ bs) (piece.Hole o ∷ ps) = refl
 
-filled_pieces : (below : Obj → Word) (ms : List Mark) → flat_map (filled below) (pieces ms) ≡ flat_map (shown below) ms
+pub filled_pieces : (below : Obj → Word) (ms : List Mark) → flat_map (filled below) (pieces ms) ≡ flat_map (shown below) ms
 filled_pieces below [] = refl
 filled_pieces below (mark.Plain w ∷ ms) = filled_before below w (pieces ms) ∙ ap (λ l. w ++ l) (filled_pieces below ms)
 filled_pieces below (mark.Hole o ∷ ms) = ap (λ l. below o ++ l) (filled_pieces below ms)
@@ -94,7 +94,7 @@ module _ (c : Content) (earlier : EmbedsEarlier c) where
             (uses_are_all c o f earlier).1 (from_further c o via.0 f via.1 ((uses_are_all c via.0 f earlier).0 via.2))
       ])
 
-  uses_joined : (o : Obj) → uses c o ≡ in_order obj_cmp (o ∷ flat_map (uses c) (embeds c o))
+  pub uses_joined : (o : Obj) → uses c o ≡ in_order obj_cmp (o ∷ flat_map (uses c) (embeds c o))
   uses_joined o = same_in_order obj_cmp obj_total obj_tied (down c always (suc o.template) o) (o ∷ flat_map (uses c) (embeds c o)) (λ z.
       any_alike (eq_by_cmp obj_cmp z) (same_obj z) (tied_obj z) (down c always (suc o.template) o)
       ∙ sym (in_ordered (down c always (suc o.template) o) z)
@@ -105,7 +105,7 @@ module _ (c : Content) (earlier : EmbedsEarlier c) where
   word_tied : (x y : Path) → text_cmp x y ≡ Equal → x ≡ y
   word_tied x y is = fin.slice_cmp-IsAntisymmetric fin.nat_cmp-IsAntisymmetric x y is
 
-  links_joined : (o : Obj) → (look c o).links ≡ in_order text_cmp (goes c o ++ flat_map (λ f. (look c f).links) (embeds c o))
+  pub links_joined : (o : Obj) → (look c o).links ≡ in_order text_cmp (goes c o ++ flat_map (λ f. (look c f).links) (embeds c o))
   links_joined o = same_in_order text_cmp nat_list_cmp_total word_tied (flat_map (goes c) (uses c o)) (goes c o ++ flat_map (λ f. (look c f).links) (embeds c o)) (λ z.
       any_flat (eq_by_cmp text_cmp z) (goes c) (uses c o)
       ∙ ap (list_any (λ f. list_any (eq_by_cmp text_cmp z) (goes c f))) (uses_joined o)

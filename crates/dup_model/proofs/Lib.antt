@@ -39,3 +39,4 @@ pub mod Changes
 pub mod Rising
 pub mod SameWords
 pub mod Columns
+pub mod LooksFromParts

@@ -35,9 +35,13 @@ pages c = in_order (λ p q. text_cmp p.0 q.0) (flat_map (pages_of c) c.frame.pag
 abbrev pub Target : Type 0
 Target = fin.FinMap text_cmp Look
 
--- the look of each page
+-- the look of each page, in path order
+abbrev pub page_looks : Content → List (Path × Look)
+page_looks c = map (λ p. (p.0, look c p.1)) (pages c)
+
+-- the same by path
 abbrev pub target : Content → Target
-target c = fin.from_entries (map (λ p. (p.0, look c p.1)) (pages c))
+target c = fin.from_entries (page_looks c)
 
 -- the target of a version
 abbrev pub target_at : Parts → List Commit → ℕ → Target

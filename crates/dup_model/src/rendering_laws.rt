@@ -1,7 +1,7 @@
 ghost use Rattle.dup_model.specs.Shows.{EachIsShown};
 ghost use Rattle.dup_model.specs.Columns.{EachReads, EachEmbeds, EachGoes};
 ghost use Rattle.dup_model.specs.Uses.{ShowIsOfMarks, UsesAreAll, LooksShow};
-ghost use Rattle.dup_model.specs.JoinedLooks.{LooksAreJoined, AffectedUpwards};
+ghost use Rattle.dup_model.specs.JoinedLooks.{LooksAreJoined, LooksFromParts, AffectedUpwards};
 ghost use Rattle.dup_model.specs.Incremental.{UntouchedIsSame, UnaffectedLooksSame};
 ghost use Rattle.dup_model.specs.Expansions.{ExpansionsAreGood, GoodIsRight};
 ghost use Rattle.dup_model.specs.Found.{FoundIsFound};
@@ -33,6 +33,7 @@ pub fn uses_law()
     ensures uses { UsesAreAll }
     ensures looks { LooksShow }
     ensures joined { LooksAreJoined }
+    ensures parts { LooksFromParts }
 {}
 
 /// What no changed item touches stays the same.

@@ -1,6 +1,7 @@
 // Paths of pages.
 ghost use Rattle.std.specs.Prelude.{◌≡◌, ◌↔◌, IsTrue, IsSome, IfSome};
-ghost use Rattle.dup_names.specs.Grammar.{is_path_byte as path_byte_grammar, are_segments as segments_grammar};
+ghost use Rattle.dup_names.specs.Grammar.{is_path_byte as path_byte_grammar};
+ghost use Rattle.dup_names.specs.Grammar.{are_segments as segments_grammar};
 ghost use Rattle.dup_names.specs.Grammar.{is_path as path_grammar};
 
 use crate::key::is_key_byte;

@@ -9,7 +9,8 @@ use Rattle.dup_model.specs.Content.{Table}
 
 -- the pages that a family of a template has for these rows
 abbrev pub pages_for : Word → ℕ → Table → List (Path × Obj)
-pages_for prefix template rows = map (λ key. (prefix ++ 47 ∷ key, record { template = template; key = Some key })) (map (λ e. e.0) rows)
+pages_for prefix template rows =
+    map (λ key. (prefix ++ 47 ∷ key, record { template = template; key = Some key })) (map (λ e. e.0) rows)
 
 -- a page at its place in the order of paths, or instead of the one that its path had
 abbrev pub with_page : List (Path × Obj) → Path × Obj → List (Path × Obj)

@@ -21,7 +21,8 @@ fn put_rows(
     template: u16,
     rows: &[Entry],
 ) -> Result<(), NoMemory>
-    ensures { OnOk result (made.new.entries ≡ with_pages made.old.entries (pages_for prefix.now template rows.now)) }
+    ensures { OnOk result (made.new.entries
+        ≡ with_pages made.old.entries (pages_for prefix.now template rows.now)) }
 {
     for row in rows {
         let key = row.0;
@@ -34,24 +35,12 @@ fn put_rows(
     Ok(())
 }
 
-// The number of a template's kind, where it is of one.
-fn kind_shown(content: &Content, template: u16) -> Option<u16>
-    ensures { result ≡ option_map (kind_at content.now.frame) (kind_of content.now.frame template) }
-{
-    match content.site().templates().get(usize::from(template)) {
-        None => None,
-        Some(part) => match &part.kind {
-            None => None,
-            Some(name) => Some(content.kind_number(name)),
-        },
-    }
-}
-
 // The rows of a template's kind, none where it is of none.
 fn rows_shown(content: &Content, template: u16) -> &[Entry]
-    ensures { map (λ e. e.0) result.now ≡ keys_of content.now (option_map (kind_at content.now.frame) (kind_of content.now.frame template)) }
+    ensures { map (λ e. e.0) result.now
+        ≡ keys_of content.now (option_map (kind_at content.now.frame) (kind_of content.now.frame template)) }
 {
-    match kind_shown(content, template) {
+    match content.kind_number_of(template) {
         None => &[],
         Some(kind) => content.rows(kind),
     }
@@ -63,7 +52,8 @@ fn put_family(
     prefix: &Prefix,
     template: &Name,
 ) -> Result<(), NoMemory>
-    ensures { OnOk result (made.new.entries ≡ with_pages made.old.entries (pages_of content.now (Family prefix.now template.now))) }
+    ensures { OnOk result (made.new.entries
+        ≡ with_pages made.old.entries (pages_of content.now (Family prefix.now template.now))) }
 {
     let number = content.template_number(template);
     let rows = rows_shown(content, number);

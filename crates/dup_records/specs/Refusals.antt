@@ -5,7 +5,8 @@ use Rattle.dup_model.specs.declared.edit.Edit.{Edit}
 use Rattle.dup_model.specs.Content.{Content}
 use Rattle.dup_records.specs.declared.refusal.CommitRefusal.{CommitRefusal}
 use Rattle.dup_records.specs.declared.refusal.CommitRefusal.TheVariants as told
-use Rattle.dup_model.specs.Commits.{edit_misfit, no_room, Refusal, UnknownKind, UnknownField, NoRow, KindFull, JournalFull}
+use Rattle.dup_model.specs.Commits.{edit_misfit, no_room, Refusal, UnknownKind, UnknownField, NoRow, KindFull}
+use Rattle.dup_model.specs.Commits.{JournalFull}
 
 -- want of memory may be answered at any time, each other refusal only where it is due
 abbrev pub Names : CommitRefusal → Option Refusal → Type 0

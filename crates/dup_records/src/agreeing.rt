@@ -38,7 +38,8 @@ pub(crate) fn are_keys(entries: &[Entry], seen: &Value) -> bool
 
 pub(crate) fn are_group(entries: &[Entry], field: usize, key: &Key, seen: &Value) -> bool
     ensures { IsTrue result
-        ↔ (seen_as.Keys (map (λ e. e.0) (filter (λ e. same (texts_at (Some e.1) field) key.now) entries.now)) ≡ seen.now) }
+        ↔ (seen_as.Keys (map (λ e. e.0) (filter (λ e. same (texts_at (Some e.1) field) key.now) entries.now))
+        ≡ seen.now) }
 {
     match seen {
         Value::Keys(keys) => group_has_keys(entries, field, key, keys.items()),

@@ -30,7 +30,8 @@ fn put(
 ) -> Result<Content, CommitRefusal>
     ensures after { IfOk result (λ made. made ≡ edited content.now (Put name.now key.now fields.now)) }
     ensures fits { OnOk result (due content.now rows number (Put name.now key.now fields.now) ≡ None) }
-    ensures refused { IfErr result (λ e. Names e (due content.now rows number (Put name.now key.now fields.now))) }
+    ensures refused { IfErr result
+        (λ e. Names e (due content.now rows number (Put name.now key.now fields.now))) }
 {
     let kind = content.kind_number(name);
     if kind >= content.kind_count() {

@@ -72,7 +72,8 @@ pub struct Limits {
 }
 
 impl Default for Limits {
-    ghost is_default = { λ limits. (limits.rows ≡ 4096) × (limits.commits ≡ 1048576) × (limits.bytes ≡ 1073741824) };
+    ghost is_default = { λ limits. (limits.rows ≡ 4096) × (limits.commits ≡ 1048576)
+        × (limits.bytes ≡ 1073741824) };
 
     /// 4,096 rows, 1,048,576 commits and 2^30 bytes.
     fn default() -> Limits {

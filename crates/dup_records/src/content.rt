@@ -3,7 +3,8 @@ ghost use Rattle.std.specs.Prelude.{◌≡◌, ◌<◌, ◌↔◌, [], IsTrue, I
 ghost use Rattle.std.specs.List.{filter, slice_get};
 ghost use Rattle.std.specs.Option.{option_map, unwrap_or};
 ghost use Rattle.dup_names.specs.Words.{same};
-ghost use Rattle.dup_model.specs.Names.{field_at, fields_at, kind_at, kind_named, kind_of, object_of, template_at};
+ghost use Rattle.dup_model.specs.Names.{field_at, fields_at, kind_at, kind_named, kind_of, object_of};
+ghost use Rattle.dup_model.specs.Names.{template_at};
 ghost use Rattle.dup_model.specs.Content.{IsOf, body_at, group, keys, row, start, table, text, value};
 ghost use Rattle.dup_model.specs.Commits.{blank, put_row, with_fields, with_table};
 ghost use Rattle.dup_model.specs.Tables.{IsRising, TablesRise};

@@ -52,7 +52,8 @@ pub(crate) fn have_keys(entries: &[Entry], keys: &[Key]) -> bool
 
 /// Whether these are the keys of those of the rows whose field has the bytes of a key, in order.
 pub(crate) fn group_has_keys(entries: &[Entry], field: usize, key: &Key, keys: &[Key]) -> bool
-    ensures { result ≡ pointwise same (map (λ e. e.0) (filter (λ e. same (texts_at (Some e.1) field) key.now) entries.now)) keys.now }
+    ensures { result ≡ pointwise same
+        (map (λ e. e.0) (filter (λ e. same (texts_at (Some e.1) field) key.now) entries.now)) keys.now }
 {
     let mut rest = keys;
     for entry in entries {

@@ -1,5 +1,6 @@
 // The rows of a kind, in the order of their keys.
-ghost use Rattle.std.specs.Prelude.{◌≡◌, ◌<◌, ◌≤◌, ◌+◌, ◌++◌, ◌∷◌, [], map, take, drop, not, Some, is_some, IfOk, IfErr, length, slice_set};
+ghost use Rattle.std.specs.Prelude.{◌≡◌, ◌<◌, ◌≤◌, ◌+◌, ◌++◌, ◌∷◌, [], map, take, drop, not, Some, is_some};
+ghost use Rattle.std.specs.Prelude.{IfOk, IfErr, length, slice_set};
 ghost use Rattle.std.specs.List.{find, filter, HoldsAt};
 ghost use Rattle.std.specs.List.Sorted.{IsSearchInRange, IsPartitionPoint};
 ghost use Rattle.std.specs.Option.{option_map, option_copied, unwrap_or};
@@ -42,7 +43,8 @@ pub(crate) fn find_row<'a>(entries: &'a [Entry], key: &Key) -> Option<&'a Listed
 /// A field of a row, where both are there.
 pub(crate) fn find_text<'a>(entries: &'a [Entry], key: &Key, field: usize) -> Option<&'a Text>
     requires { IsRising entries.now }
-    ensures { unwrap_or (option_copied result) [] ≡ texts_at (option_map (λ e. e.1) (find (λ e. same e.0 key.now) entries.now)) field }
+    ensures { unwrap_or (option_copied result) []
+        ≡ texts_at (option_map (λ e. e.1) (find (λ e. same e.0 key.now) entries.now)) field }
 {
     match find_row(entries, key) {
         None => None,
@@ -204,7 +206,9 @@ pub(crate) fn texts_or_blank(
     names: &[Name],
 ) -> Result<Vec<Text>, NoMemory>
     requires { IsRising entries.now }
-    ensures { IfOk result (λ made. made.items ≡ unwrap_or (option_map (λ e. e.1) (find (λ e. same e.0 key.now) entries.now)) (blank names.now)) }
+    ensures { IfOk result (λ made.
+        made.items ≡ unwrap_or (option_map (λ e. e.1) (find (λ e. same e.0 key.now) entries.now))
+        (blank names.now)) }
 {
     match find_row(entries, key) {
         Some(texts) => shared_texts(alloc, texts.items()),

@@ -185,7 +185,7 @@ fn refusals_are_told(rt: HostRuntime) -> Result<(), Fail> {
         ),
         (CommitRefusal::NoMemory, "out of memory"),
     ] {
-        assert_eq!(rt; refusal.to_string(alloc)?.as_str(), text);
+        assert_eq!(rt; refusal.to_string(alloc)?.as_str(), text, "at {text}");
     }
     Ok(())
 }

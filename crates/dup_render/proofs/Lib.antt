@@ -1,5 +1,5 @@
 pub mod Sorting
 pub mod ByField
-pub mod Turns
-pub mod Ordered
+pub mod EachTurns
+pub mod DerivedOrders
 pub mod Expansion

@@ -29,9 +29,19 @@ impl Model for Expanded {
 
     ghost coded = { Prim.hlevel (codes, statement.the_row.coded) };
 
-    ghost view = { λ e. record { site = e.site.value; obj = e.obj; notes = e.notes; skeleton = e.skeleton.value } };
+    ghost view = { λ e. record {
+      site = e.site.value;
+      obj = e.obj;
+      notes = e.notes;
+      skeleton = e.skeleton.value;
+    } };
 
-    ghost invariant = { λ e. IsGoodExpansion record { site = e.site.value; obj = e.obj; notes = e.notes; skeleton = e.skeleton.value } };
+    ghost invariant = { λ e. IsGoodExpansion record {
+      site = e.site.value;
+      obj = e.obj;
+      notes = e.notes;
+      skeleton = e.skeleton.value;
+    } };
 }
 
 impl Expanded {
@@ -42,8 +52,18 @@ impl Expanded {
         notes: Vec<(Item, Value)>,
         skeleton: Arc<Skeleton, Global>,
     ) -> Expanded
-        requires { IsGoodExpansion record { site = site.value; obj = obj; notes = notes.items; skeleton = skeleton.value } }
-        ensures { result ≡ record { site = site.value; obj = obj; notes = notes.items; skeleton = skeleton.value } }
+        requires { IsGoodExpansion record {
+          site = site.value;
+          obj = obj;
+          notes = notes.items;
+          skeleton = skeleton.value;
+        } }
+        ensures { result ≡ record {
+          site = site.value;
+          obj = obj;
+          notes = notes.items;
+          skeleton = skeleton.value;
+        } }
     {
         let notes = Listed::of(notes);
         Expanded {

@@ -1,7 +1,8 @@
-use crate::tests::{RESULTS, Row, content, key, name};
+use crate::tests::{Row, content, key, name};
 use crate::{Expanded, expand, is_job};
 use dup_names::{Item, Key, Meter, Obj, Piece, Value};
 use dup_records::Content;
+use dup_samples::RESULTS_SITE;
 use std::alloc::Global;
 use std::str;
 use std::test::Fail;
@@ -142,7 +143,7 @@ fn an_event_notes_what_its_results_are_ordered_by(rt: HostRuntime) -> Result<(),
         ("result", "r2", &[("event", "e1"), ("place", "10")]),
         ("result", "r3", &[("event", "e1"), ("place", "9")]),
     ];
-    let content = content(alloc, RESULTS, &rows)?;
+    let content = content(alloc, RESULTS_SITE.as_bytes(), &rows)?;
     let mut meter = Meter::new();
     let made = expanded(alloc, &content, "event_page", "e1", &mut meter)?;
     let key = Some(key("e1")?);

@@ -15,7 +15,6 @@ mod links;
 mod marks;
 mod order;
 mod pieces;
-mod places;
 mod rows;
 mod show;
 mod statements;

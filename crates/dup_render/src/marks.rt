@@ -9,7 +9,6 @@ ghost use Rattle.dup_model.specs.Turns.{order_reads};
 
 use crate::escape::escape;
 use crate::here::Here;
-use crate::places::object_of;
 use dup_lists::Listed;
 use dup_model::Mark;
 use dup_names::{Item, Key, Name, NoMemory};
@@ -43,7 +42,9 @@ pub(crate) fn put_field_read(
     key: &Key,
     out: &mut Marks,
 ) -> Result<u16, NoMemory>
-    ensures mark { OnOk result (out.new.items ≡ out.old.items ++ mark.Read (item.Field kind key.now (field_at content.now.frame kind name.now)) ∷ []) }
+    ensures mark { OnOk result (out.new.items
+        ≡ out.old.items
+        ++ mark.Read (item.Field kind key.now (field_at content.now.frame kind name.now)) ∷ []) }
     ensures field { IfOk result (λ field. field ≡ field_at content.now.frame kind name.now) }
 {
     let field = content.field_number(kind, name);
@@ -64,7 +65,8 @@ pub(crate) fn put_field(
     name: &Name,
     out: &mut Marks,
 ) -> Result<(), NoMemory>
-    ensures { OnOk result (out.new.items ≡ out.old.items ++ on_key here.now.key (field_marks content.now here.now.kind name.now)) }
+    ensures { OnOk result (out.new.items
+        ≡ out.old.items ++ on_key here.now.key (field_marks content.now here.now.kind name.now)) }
 {
     let Some(key) = &here.key else {
         return Ok(());
@@ -76,7 +78,8 @@ pub(crate) fn put_field(
 
 /// Puts the marks of `key`.
 pub(crate) fn put_key(alloc: Global, here: &Here, out: &mut Marks) -> Result<(), NoMemory>
-    ensures { OnOk result (out.new.items ≡ out.old.items ++ on_key here.now.key (λ key. mark.Plain key ∷ [])) }
+    ensures { OnOk result (out.new.items
+        ≡ out.old.items ++ on_key here.now.key (λ key. mark.Plain key ∷ [])) }
 {
     match &here.key {
         None => Ok(()),
@@ -92,7 +95,8 @@ pub(crate) fn put_embed_via(
     via: &Name,
     out: &mut Marks,
 ) -> Result<(), NoMemory>
-    ensures { OnOk result (out.new.items ≡ out.old.items ++ on_key here.now.key (via_marks content.now here.now.kind template.now via.now)) }
+    ensures { OnOk result (out.new.items
+        ≡ out.old.items ++ on_key here.now.key (via_marks content.now here.now.kind template.now via.now)) }
 {
     let Some(key) = &here.key else {
         return Ok(());
@@ -100,12 +104,13 @@ pub(crate) fn put_embed_via(
     let field = put_field_read(content, here.kind, via, key, out)?;
     match Key::read(content.text(here.kind, key, field)) {
         None => Ok(()),
-        to => put(Mark::Hole(object_of(content, template, &to)), out),
+        to => put(Mark::Hole(content.object_of(template, &to)), out),
     }
 }
 
 fn put_reads(kind: u16, field: u16, keys: &[Key], out: &mut Marks) -> Result<(), NoMemory>
-    ensures { OnOk result (out.new.items ≡ out.old.items ++ map (λ q. mark.Read (item.Field kind q field)) keys.now) }
+    ensures { OnOk result (out.new.items
+        ≡ out.old.items ++ map (λ q. mark.Read (item.Field kind q field)) keys.now) }
 {
     for key in keys {
         let item = Item::Field {

@@ -31,7 +31,8 @@ fn put_mark(
     out: &mut Vec<Piece>,
 ) -> Result<(), NoMemory>
     ensures { OnOk result ((rest : List Marks) →
-        with_rest out.new.items loose.new.items rest ≡ with_rest out.old.items loose.old.items (mark.now ∷ rest)) }
+        with_rest out.new.items loose.new.items rest
+        ≡ with_rest out.old.items loose.old.items (mark.now ∷ rest)) }
 {
     match mark {
         Mark::Plain(bytes) => {

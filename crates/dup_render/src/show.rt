@@ -1,17 +1,27 @@
 // What an object shows.
 ghost use Rattle.std.specs.Prelude.{◌≡◌, ◌↔◌, ◌++◌, IsTrue, IfOk, OnOk};
 ghost use Rattle.dup_model.specs.Jobs.{IsJob};
-ghost use Rattle.dup_model.specs.Marks.{marks};
+ghost use Rattle.dup_model.specs.Marks.{kind_from, marks};
+ghost use Rattle.dup_model.specs.Names.{kind_of};
 ghost use Rattle.dup_model.specs.Show.{show, show_below, shown};
 
 use crate::here::Here;
 use crate::marks::Marks;
-use crate::places::{body_of, kind_from, kind_of};
 use crate::statements::put_body;
 use dup_model::Mark;
 use dup_names::{NoMemory, Obj};
 use dup_records::Content;
 use std::alloc::Global;
+
+// The number of a template's kind, 0 where it has none.
+fn kind_from(content: &Content, template: u16) -> u16
+    ensures { result ≡ kind_from content.now.frame (kind_of content.now.frame template) }
+{
+    match content.kind_of(template) {
+        None => 0,
+        Some(name) => content.kind_number(&name),
+    }
+}
 
 /// What the statements of an object give, up to each embedding.
 pub(crate) fn marks_of(alloc: Global, content: &Content, obj: &Obj) -> Result<Marks, NoMemory>
@@ -22,13 +32,8 @@ pub(crate) fn marks_of(alloc: Global, content: &Content, obj: &Obj) -> Result<Ma
         key: obj.key,
     };
     let mut out = Vec::new(alloc);
-    put_body(
-        alloc,
-        content,
-        &here,
-        body_of(content, obj.template),
-        &mut out,
-    )?;
+    let body = content.body_of(obj.template);
+    put_body(alloc, content, &here, body, &mut out)?;
     Ok(out)
 }
 
@@ -77,7 +82,7 @@ pub fn is_job(content: &Content, obj: &Obj) -> bool
     ensures { IsTrue result ↔ IsJob content.now.frame obj.now }
 {
     let count = content.site().templates().len();
-    let kind = kind_of(content, obj.template);
+    let kind = content.kind_of(obj.template);
     usize::from(obj.template) < count && obj.key.is_some() == kind.is_some()
 }
 

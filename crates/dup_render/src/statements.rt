@@ -12,7 +12,6 @@ use crate::marks::{
     Marks, put, put_embed_via, put_field, put_field_read, put_key, put_order_reads, put_plain,
 };
 use crate::order::rows_by;
-use crate::places::{kind_named, object_of};
 use crate::rows::{Rows, rows_of};
 use dup_model::Mark;
 use dup_names::{Key, Name, NoMemory, Path};
@@ -30,7 +29,8 @@ fn put_if(
     out: &mut Marks,
 ) -> Result<(), NoMemory>
     ensures { OnOk result (out.new.items ≡ out.old.items
-        ++ on_key here.now.key (if_marks content.now here.now.kind name.now (body_marks content.now body.now here.now))) }
+        ++ on_key here.now.key
+        (if_marks content.now here.now.kind name.now (body_marks content.now body.now here.now))) }
 {
     let Some(key) = &here.key else {
         return Ok(());
@@ -53,7 +53,8 @@ fn put_bodies(
     body: &[Statement],
     out: &mut Marks,
 ) -> Result<(), NoMemory>
-    ensures { OnOk result (out.new.items ≡ out.old.items ++ bodies kind (body_marks content.now body.now) keys.now) }
+    ensures { OnOk result (out.new.items
+        ≡ out.old.items ++ bodies kind (body_marks content.now body.now) keys.now) }
 {
     for key in keys {
         let here = Here {
@@ -75,7 +76,8 @@ fn put_turns(
     out: &mut Marks,
 ) -> Result<(), NoMemory>
     ensures { OnOk result (out.new.items ≡ out.old.items
-        ++ turns content.now rows.now.kind order.now (body_marks content.now body.now) rows.now.item rows.now.keys) }
+        ++ turns content.now rows.now.kind order.now
+        (body_marks content.now body.now) rows.now.item rows.now.keys) }
 {
     put(Mark::Read(rows.item), out)?;
     put_order_reads(content, rows.kind, order, rows.keys.items(), out)?;
@@ -92,7 +94,8 @@ fn put_anchor(
     body: &[Statement],
     out: &mut Marks,
 ) -> Result<(), NoMemory>
-    ensures { OnOk result (out.new.items ≡ out.old.items ++ linked_to (Some path.now) (body_marks content.now body.now here.now)) }
+    ensures { OnOk result (out.new.items
+        ≡ out.old.items ++ linked_to (Some path.now) (body_marks content.now body.now here.now)) }
 {
     put_opening(alloc, path, out)?;
     put_body(alloc, content, here, body, out)?;
@@ -110,9 +113,10 @@ fn put_link(
     out: &mut Marks,
 ) -> Result<(), NoMemory>
     ensures { OnOk result (out.new.items ≡ out.old.items
-        ++ link content.now template.now (kind_of_named content.now.frame template.now) to.now (body_marks content.now body.now here.now)) }
+        ++ link content.now template.now (kind_of_named content.now.frame template.now) to.now
+        (body_marks content.now body.now here.now)) }
 {
-    let kind = kind_named(content, template);
+    let kind = content.kind_named(template);
     put_target_read(kind, to, out)?;
     match target_path(content, template, kind, to) {
         None => put_body(alloc, content, here, body, out),
@@ -131,7 +135,9 @@ fn put_link_via(
     out: &mut Marks,
 ) -> Result<(), NoMemory>
     ensures { OnOk result (out.new.items ≡ out.old.items
-        ++ on_key here.now.key (link_via content.now here.now.kind template.now via.now (body_marks content.now body.now here.now))) }
+        ++ on_key here.now.key
+        (link_via content.now here.now.kind template.now via.now
+        (body_marks content.now body.now here.now))) }
 {
     let Some(key) = &here.key else {
         return Ok(());
@@ -153,7 +159,8 @@ fn put_statement(
     statement: &Statement,
     out: &mut Marks,
 ) -> Result<(), NoMemory>
-    ensures { OnOk result (out.new.items ≡ out.old.items ++ statement_marks content.now statement.now here.now) }
+    ensures { OnOk result (out.new.items
+        ≡ out.old.items ++ statement_marks content.now statement.now here.now) }
 {
     match statement {
         Statement::Say(words) => put_plain(alloc, words.bytes(), out),
@@ -171,7 +178,7 @@ fn put_statement(
             Some(rows) => put_turns(alloc, content, &rows, order, body.items(), out),
         },
         Statement::Embed { template, via } => match via {
-            None => put(Mark::Hole(object_of(content, template, &here.key)), out),
+            None => put(Mark::Hole(content.object_of(template, &here.key)), out),
             Some(via) => put_embed_via(content, here, template, via, out),
         },
         Statement::Link {

@@ -1,31 +1,11 @@
 use crate::{is_job, show_plain};
 use dup_names::{Key, Name, Obj, Text};
 use dup_records::{Change, Commit, Content, apply};
+use dup_samples::RESULTS_SITE;
 use dup_site::read_site;
 use std::alloc::Global;
 use std::sync::Arc;
 use std::test::Fail;
-
-// Results in the order of their places, one template embedded in another.
-pub(crate) const RESULTS: &[u8] = b"kind event title
-kind result event who place
-template line of result
-= <li>
-field place
-= :
-field who
-= </li>
-end
-template event_page of event
-= <h1>
-field title
-= </h1>
-each result by event order place
-embed line
-end
-end
-family /event event_page
-";
 
 // A statement of each kind.
 const PEOPLE: &[u8] = b"kind person name friend
@@ -172,7 +152,7 @@ fn an_event_shows_its_results_by_place(rt: HostRuntime) -> Result<(), Fail> {
             &[("event", "e2"), ("place", "1"), ("who", "Dot")],
         ),
     ];
-    let content = content(alloc, RESULTS, &rows)?;
+    let content = content(alloc, RESULTS_SITE.as_bytes(), &rows)?;
     for (row, want) in [
         (
             "e1",

@@ -13,7 +13,7 @@ use Rattle.dup_template.specs.declared.site.TemplatePart.{TemplatePart}
 use Rattle.dup_template.specs.declared.site.PageRule.{PageRule}
 use Rattle.dup_template.specs.declared.statement.Statement.{Statement, fold-Statement}
 use Rattle.dup_template.specs.declared.statement.Statement.TheOpen.{Statement-F}
-use Rattle.dup_template.proofs.Facts.{or-none, at_most-none, good-parts}
+use Rattle.dup_template.proofs.GoodParts.{or-none, at_most-none, good-parts}
 use Rattle.dup_site.specs.KeptStatements.{IsKeptOf, AreKeptOf, BreakSame, IsKept}
 
 names-kept : (ts us : List TemplatePart) → AreKeptOf ts us → template_names ts ≡ template_names us

@@ -15,7 +15,7 @@ use Rattle.dup_template.specs.declared.statement.Statement.TheOpen.{Statement-F}
 use Rattle.dup_template.specs.declared.statement.Statement.TheVariants as s
 use Rattle.dup_template.specs.declared.statement.Statement.TheVariants.{rolls-If, rolls-Each, rolls-Link}
 use Rattle.dup_template.specs.declared.statement.Statement.TheFolds.{ind-Statement, fold-roll-Statement, map-Statement}
-use Rattle.dup_template.proofs.Facts.{or-none}
+use Rattle.dup_template.proofs.GoodParts.{or-none}
 use Rattle.dup_site.specs.KeptStatements.{BreakSame}
 
 or-assoc : (a b c : Fault) → option_or a (option_or b c) ≡ option_or (option_or a b) c

@@ -1,5 +1,6 @@
 -- What the lines of a site text say, one line after another.
-use Rattle.std.specs.Prelude.{ℕ, ◌+◌, Bool, true, false, ◌&&◌, if◌then◌else◌, List, [], ◌∷◌, ◌++◌, Option, Some, None, Result, Ok, Err}
+use Rattle.std.specs.Prelude.{ℕ, ◌+◌, Bool, true, false, ◌&&◌, if◌then◌else◌, List, [], ◌∷◌, ◌++◌, Option}
+use Rattle.std.specs.Prelude.{Some, None, Result, Ok, Err}
 use Rattle.dup_template.specs.declared.site.Parts.{Parts}
 use Rattle.dup_template.specs.declared.site.KindPart.{KindPart}
 use Rattle.dup_template.specs.declared.site.TemplatePart.{TemplatePart}
@@ -7,7 +8,8 @@ use Rattle.dup_template.specs.declared.site.PageRule.{PageRule}
 use Rattle.dup_template.specs.declared.statement.Statement.{Statement}
 use Rattle.dup_template.specs.declared.statement.Statement.TheVariants as statement
 use Rattle.dup_site.specs.declared.site_line.SiteLine.{SiteLine}
-use Rattle.dup_site.specs.declared.site_line.SiteLine.TheVariants.{Blank, Kind, Page, Open as Opens, Say, Nl, Field, Key, Embed, End}
+use Rattle.dup_site.specs.declared.site_line.SiteLine.TheVariants.{Blank, Kind, Page, Open as Opens, Say, Nl}
+use Rattle.dup_site.specs.declared.site_line.SiteLine.TheVariants.{Field, Key, Embed, End}
 use Rattle.dup_site.specs.declared.site_line.Head.{Head}
 use Rattle.dup_site.specs.declared.site_line.Head.TheVariants.{Template, If, Each, Link}
 
@@ -38,11 +40,13 @@ put s d [] = None
 put s d (o ∷ outer) = Some (opened d (record { head = o.head; done = o.done ++ s ∷ [] } ∷ outer))
 
 abbrev pub put_template : TemplatePart → Draft → List Open → Option Draft
-put_template t d [] = Some (record { kinds = d.kinds; templates = d.templates ++ t ∷ []; pages = d.pages; stack = [] })
+put_template t d [] =
+    Some (record { kinds = d.kinds; templates = d.templates ++ t ∷ []; pages = d.pages; stack = [] })
 put_template t d (o ∷ outer) = None
 
 abbrev pub close : Head → List Statement → Draft → List Open → Option Draft
-close (Template name kind) body d outer = put_template (record { name = name; kind = kind; body = body }) d outer
+close (Template name kind) body d outer =
+    put_template (record { name = name; kind = kind; body = body }) d outer
 close (If f) body d outer = put (statement.If f body) d outer
 close (Each of by order) body d outer = put (statement.Each of by order body) d outer
 close (Link name via) body d outer = put (statement.Link name via body) d outer
@@ -56,7 +60,8 @@ is_none [] = true
 is_none (x ∷ xs) = false
 
 abbrev pub put_first : KindPart → Draft → List Open → Option Draft
-put_first k d [] = Some (record { kinds = d.kinds ++ k ∷ []; templates = d.templates; pages = d.pages; stack = [] })
+put_first k d [] =
+    Some (record { kinds = d.kinds ++ k ∷ []; templates = d.templates; pages = d.pages; stack = [] })
 put_first k d (o ∷ outer) = None
 
 -- all kinds stand before all templates
@@ -65,7 +70,8 @@ put_kind k d os ts ps = if is_none ts && is_none ps then put_first k d os else N
 
 -- and all pages behind them
 abbrev pub put_page : PageRule → Draft → List Open → Option Draft
-put_page p d [] = Some (record { kinds = d.kinds; templates = d.templates; pages = d.pages ++ p ∷ []; stack = [] })
+put_page p d [] =
+    Some (record { kinds = d.kinds; templates = d.templates; pages = d.pages ++ p ∷ []; stack = [] })
 put_page p d (o ∷ outer) = None
 
 abbrev pub open_first : Head → Draft → List Open → Option Draft
@@ -111,7 +117,8 @@ abbrev pub onward : ℕ → Option Draft → (Draft → Result Parts ℕ) → Re
 onward n None rest = Err n
 onward n (Some d) rest = rest d
 
--- the parts that the lines say, or the number of the first line that may not stand where it stands; n: the number of the first
+-- the parts that the lines say, or the number of the first line that may not stand where it stands; n: the
+-- number of the first
 abbrev pub said_from : ℕ → Draft → List (Option SiteLine) → Result Parts ℕ
 said_from n d [] = finished n d d.stack
 said_from n d (l ∷ ls) = onward n (step_at d l) (λ e. said_from (n + 1) e ls)

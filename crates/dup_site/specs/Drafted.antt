@@ -1,5 +1,6 @@
 -- A reading's parts and what is open, as the definitions see them.
-use Rattle.std.specs.Prelude.{◌≡◌, List, [], ◌∷◌, ◌++◌, Option, Some, None, Result, Ok, Err, Bool, true, false}
+use Rattle.std.specs.Prelude.{◌≡◌, List, [], ◌∷◌, ◌++◌, Option, Some, None, Result, Ok, Err, Bool, true}
+use Rattle.std.specs.Prelude.{false}
 use Rattle.dup_site.specs.declared.draft.Open.{Open as Frame}
 use Rattle.dup_site.specs.declared.draft.SiteReading.{SiteReading}
 use Rattle.dup_site.specs.declared.keeping.Keeping.{Keeping as Reader}
@@ -15,7 +16,12 @@ outward [] = []
 outward (o ∷ os) = outward os ++ seen_open o ∷ []
 
 abbrev pub drafted : SiteReading → Draft
-drafted r = record { kinds = r.kinds.items; templates = r.templates.items; pages = r.pages.items; stack = outward r.stack.items }
+drafted r = record {
+  kinds = r.kinds.items;
+  templates = r.templates.items;
+  pages = r.pages.items;
+  stack = outward r.stack.items;
+}
 
 abbrev pub keeping_of : Reader → Keeping
 keeping_of k = record { draft = drafted k.reading; begun = k.begun; passed = k.passed; deep = k.deep }

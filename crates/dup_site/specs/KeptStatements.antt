@@ -1,6 +1,8 @@
--- What a reader keeps of a site text: of each template the first statements, one more than a good one has, up to
--- the first that is too deep.
-use Rattle.std.specs.Prelude.{◌≡◌, ℕ, zero, suc, ◌+◌, ◌<◌, ◌⊎◌, Bool, true, false, not, ◌&&◌, ◌||◌, List, [], ◌∷◌, length, nat_eq, nat_lt, if◌then◌else◌, Option, Some, None, option_map, Result, Ok, Err}
+-- What a reader keeps of a site text: of each template the first statements, one more than a good one has, up
+-- to the first that is too deep.
+use Rattle.std.specs.Prelude.{◌≡◌, ℕ, zero, suc, ◌+◌, ◌<◌, ◌⊎◌, Bool, true, false, not, ◌&&◌, ◌||◌, List, []}
+use Rattle.std.specs.Prelude.{◌∷◌, length, nat_eq, nat_lt, if◌then◌else◌, Option, Some, None, option_map}
+use Rattle.std.specs.Prelude.{Result, Ok, Err}
 use Rattle.dup_names.specs.Words.{Word}
 use Rattle.dup_names.specs.declared.limits.TheConstants.{MAX_STATEMENTS, MAX_NESTING}
 use Rattle.dup_template.specs.Good.{body_size, body_fault}
@@ -9,7 +11,8 @@ use Rattle.dup_template.specs.declared.statement.Statement.TheVariants as statem
 use Rattle.dup_template.specs.declared.site.Parts.{Parts}
 use Rattle.dup_template.specs.declared.site.TemplatePart.{TemplatePart}
 use Rattle.dup_site.specs.declared.site_line.SiteLine.{SiteLine}
-use Rattle.dup_site.specs.declared.site_line.SiteLine.TheVariants.{Blank, Kind, Page, Open as Opens, Say, Nl, Field, Key, Embed, End}
+use Rattle.dup_site.specs.declared.site_line.SiteLine.TheVariants.{Blank, Kind, Page, Open as Opens, Say, Nl}
+use Rattle.dup_site.specs.declared.site_line.SiteLine.TheVariants.{Field, Key, Embed, End}
 use Rattle.dup_site.specs.declared.site_line.Head.{Head}
 use Rattle.dup_site.specs.declared.site_line.Head.TheVariants.{Template, If, Each, Link}
 use Rattle.dup_template.specs.declared.refusal.SiteTextRefusal.{SiteTextRefusal}
@@ -18,10 +21,13 @@ use Rattle.dup_site.specs.Draft.{Draft, is_none, put, step}
 
 -- both break the same rule first, at this depth
 pub record BreakSame (depth : ℕ) (xs ys : List Statement) : Type 0 where
-  pub same : (site : Parts) (earlier : List TemplatePart) (own : Word) (kind : Option Word) → body_fault site earlier own xs kind depth ≡ body_fault site earlier own ys kind depth
-  pub broken : (site : Parts) (earlier : List TemplatePart) (own : Word) (kind : Option Word) → body_fault site earlier own xs kind depth ≡ None → ⊥
+  pub same : (site : Parts) (earlier : List TemplatePart) (own : Word) (kind : Option Word)
+      → body_fault site earlier own xs kind depth ≡ body_fault site earlier own ys kind depth
+  pub broken : (site : Parts) (earlier : List TemplatePart) (own : Word) (kind : Option Word)
+      → body_fault site earlier own xs kind depth ≡ None → ⊥
 
--- the same template; or both have more statements than a good one may; or both have as many, and break the same rule first
+-- the same template; or both have more statements than a good one may; or both have as many, and break the
+-- same rule first
 abbrev pub IsKeptOf : TemplatePart → TemplatePart → Type 0
 IsKeptOf kept whole =
     (kept.name ≡ whole.name)
@@ -49,7 +55,8 @@ Keeps (Err (BadLine n)) said = said ≡ Err n
 Keeps (Err (Check e)) said = ⊥
 Keeps (Err NoMemory) said = Unit {0}
 
--- what was kept so far, the statements of the open template that were begun, those that are open and weren't kept, and whether one was too deep
+-- what was kept so far, the statements of the open template that were begun, those that are open and weren't
+-- kept, and whether one was too deep
 pub record Keeping : Type 0 where
   pub draft : Draft
   pub begun : ℕ
@@ -82,7 +89,12 @@ opens (Opens head) = nat_eq (head_size head) 1
 opens _ = false
 
 abbrev pub counted : ℕ → Bool → Draft → Keeping
-counted n deep d = record { draft = d; begun = if is_none d.stack then 0 else n; passed = 0; deep = if is_none d.stack then false else deep }
+counted n deep d = record {
+  draft = d;
+  begun = if is_none d.stack then 0 else n;
+  passed = 0;
+  deep = if is_none d.stack then false else deep;
+}
 
 abbrev pub within : Keeping → SiteLine → Option Keeping
 within k line = option_map (counted (k.begun + begins line) false) (step k.draft line)
@@ -94,7 +106,8 @@ passing k n = Some (record { draft = k.draft; begun = k.begun; passed = n; deep 
 abbrev pub mark : Keeping → ℕ → Option Keeping
 mark k n =
     if nat_lt k.begun (MAX_STATEMENTS + 1)
-    then option_map (λ d. record { draft = d; begun = k.begun + 1; passed = n; deep = true }) (put statement.Nl k.draft k.draft.stack)
+    then option_map (λ d. record { draft = d; begun = k.begun + 1; passed = n; deep = true })
+    (put statement.Nl k.draft k.draft.stack)
     else passing k n
 
 abbrev pub pass_head : Keeping → Head → Option Keeping

@@ -1,6 +1,7 @@
 -- What one line says, and how it is written.
 use Rattle.dup_names.specs.Words.{Word, same}
-use Rattle.std.specs.Prelude.{◌≡◌, ℕ, Bool, true, ◌&&◌, List, [], ◌∷◌, ◌++◌, map, nat_eq, if◌then◌else◌, Option, Some, None, codes, Result}
+use Rattle.std.specs.Prelude.{◌≡◌, ℕ, Bool, true, ◌&&◌, List, [], ◌∷◌, ◌++◌, map, nat_eq, if◌then◌else◌}
+use Rattle.std.specs.Prelude.{Option, Some, None, codes, Result}
 use Rattle.std.specs.List.{list_all, flat_map}
 use Rattle.std.specs.Str.{is_utf8}
 use Rattle.dup_names.specs.Grammar.{is_name, is_path}
@@ -9,7 +10,8 @@ use Rattle.dup_template.specs.declared.site.Parts.{Parts}
 use Rattle.dup_template.specs.declared.site.PageRule.{PageRule}
 use Rattle.dup_template.specs.declared.site.PageRule.TheVariants.{Fixed, Family}
 use Rattle.dup_site.specs.declared.site_line.SiteLine.{SiteLine}
-use Rattle.dup_site.specs.declared.site_line.SiteLine.TheVariants.{Blank, Kind, Page, Open, Say, Nl, Field, Key, Embed, End}
+use Rattle.dup_site.specs.declared.site_line.SiteLine.TheVariants.{Blank, Kind, Page, Open, Say, Nl, Field}
+use Rattle.dup_site.specs.declared.site_line.SiteLine.TheVariants.{Key, Embed, End}
 use Rattle.dup_site.specs.declared.site_line.Head.{Head}
 use Rattle.dup_site.specs.declared.site_line.Head.TheVariants.{Template, If, Each, Link}
 use Rattle.dup_names.specs.LineWords.{line_words, trimmed, spaced}
@@ -39,7 +41,8 @@ name_first (w ∷ ws) = if is_name w then Some (w, ws) else None
 -- where this word stands there: a name behind it
 abbrev pub marked : Word → List Word → Rest (Option Word)
 marked word [] = Some (None, [])
-marked word (w ∷ ws) = if same w word then with_read (name_first ws) (λ n. Some (Some n.0, n.1)) else Some (None, w ∷ ws)
+marked word (w ∷ ws) =
+    if same w word then with_read (name_first ws) (λ n. Some (Some n.0, n.1)) else Some (None, w ∷ ws)
 
 -- nothing more
 abbrev pub at_end : List Word → SiteLine → Option SiteLine
@@ -51,7 +54,8 @@ one_name f ws = with_read (name_first ws) (λ n. at_end n.1 (f n.0))
 
 -- a name, and perhaps a mark and a name
 abbrev pub marked_line : Word → (Word → Option Word → SiteLine) → List Word → Option SiteLine
-marked_line word f ws = with_read (name_first ws) (λ n. with_read (marked word n.1) (λ m. at_end m.1 (f n.0 m.0)))
+marked_line word f ws =
+    with_read (name_first ws) (λ n. with_read (marked word n.1) (λ m. at_end m.1 (f n.0 m.0)))
 
 abbrev pub template_head : Word → Option Word → SiteLine
 template_head name kind = Open (Template name kind)
@@ -64,17 +68,23 @@ if_head f = Open (If f)
 
 abbrev pub each_line : List Word → Option SiteLine
 each_line ws =
-    with_read (name_first ws) (λ n. with_read (marked (codes "by") n.1) (λ by. with_read (marked (codes "order") by.1) (λ last. at_end last.1 (Open (Each n.0 by.0 last.0)))))
+    with_read (name_first ws)
+    (λ n. with_read (marked (codes "by") n.1)
+    (λ by. with_read (marked (codes "order") by.1) (λ last. at_end last.1 (Open (Each n.0 by.0 last.0)))))
 
 abbrev pub path_first : (Word → Bool) → List Word → Rest Word
 path_first is [] = None
 path_first is (w ∷ ws) = if is w then Some (w, ws) else None
 
 abbrev pub page_line : List Word → Option SiteLine
-page_line ws = with_read (path_first is_path ws) (λ p. with_read (name_first p.1) (λ n. at_end n.1 (Page (Fixed p.0 n.0))))
+page_line ws =
+    with_read (path_first is_path ws)
+    (λ p. with_read (name_first p.1) (λ n. at_end n.1 (Page (Fixed p.0 n.0))))
 
 abbrev pub family_line : List Word → Option SiteLine
-family_line ws = with_read (path_first is_prefix ws) (λ p. with_read (name_first p.1) (λ n. at_end n.1 (Page (Family p.0 n.0))))
+family_line ws =
+    with_read (path_first is_prefix ws)
+    (λ p. with_read (name_first p.1) (λ n. at_end n.1 (Page (Family p.0 n.0))))
 
 abbrev pub by_word : Word → List Word → Option SiteLine
 by_word w ws =
@@ -122,7 +132,8 @@ with_word word (Some name) = word ∷ name ∷ []
 abbrev pub head_words : Head → List Word
 head_words (Template name kind) = codes "template" ∷ name ∷ with_word (codes "of") kind
 head_words (If f) = codes "if" ∷ f ∷ []
-head_words (Each kind by order) = codes "each" ∷ kind ∷ (with_word (codes "by") by ++ with_word (codes "order") order)
+head_words (Each kind by order) =
+    codes "each" ∷ kind ∷ (with_word (codes "by") by ++ with_word (codes "order") order)
 head_words (Link name via) = codes "link" ∷ name ∷ with_word (codes "via") via
 
 abbrev pub page_words : PageRule → List Word

@@ -29,7 +29,8 @@ pub(crate) type Stands = Result<bool, AllocError>;
 
 #[tactic(auto, using(crate::proofs::OpenStack::outward_last))]
 fn put(reading: &mut SiteReading, statement: Statement) -> Stands
-    ensures { Goes result (drafted reading.new) (draft.put statement (drafted reading.old) (drafted reading.old).stack) }
+    ensures { Goes result (drafted reading.new)
+        (draft.put statement (drafted reading.old) (drafted reading.old).stack) }
 {
     match reading.stack.pop() {
         None => Ok(false),
@@ -44,7 +45,8 @@ fn put(reading: &mut SiteReading, statement: Statement) -> Stands
 
 #[tactic(auto, using(crate::proofs::OpenStack::outward_last))]
 fn open_statement(alloc: Global, reading: &mut SiteReading, head: Head) -> Stands
-    ensures { Goes result (drafted reading.new) (draft.open_statement head (drafted reading.old) (drafted reading.old).stack) }
+    ensures { Goes result (drafted reading.new)
+        (draft.open_statement head (drafted reading.old) (drafted reading.old).stack) }
 {
     match reading.stack.pop() {
         None => Ok(false),
@@ -59,7 +61,8 @@ fn open_statement(alloc: Global, reading: &mut SiteReading, head: Head) -> Stand
 
 #[tactic(auto, using(crate::proofs::OpenStack::outward_last))]
 fn put_template(reading: &mut SiteReading, template: TemplatePart) -> Stands
-    ensures { Goes result (drafted reading.new) (draft.put_template template (drafted reading.old) (drafted reading.old).stack) }
+    ensures { Goes result (drafted reading.new)
+        (draft.put_template template (drafted reading.old) (drafted reading.old).stack) }
 {
     match reading.stack.pop() {
         None => {
@@ -72,7 +75,8 @@ fn put_template(reading: &mut SiteReading, template: TemplatePart) -> Stands
 
 #[tactic(auto, using(crate::proofs::OpenStack::outward_last))]
 fn put_page(reading: &mut SiteReading, rule: PageRule) -> Stands
-    ensures { Goes result (drafted reading.new) (draft.put_page rule (drafted reading.old) (drafted reading.old).stack) }
+    ensures { Goes result (drafted reading.new)
+        (draft.put_page rule (drafted reading.old) (drafted reading.old).stack) }
 {
     match reading.stack.pop() {
         None => {
@@ -84,7 +88,8 @@ fn put_page(reading: &mut SiteReading, rule: PageRule) -> Stands
 }
 
 fn close(reading: &mut SiteReading, head: Head, done: Vec<Statement>) -> Stands
-    ensures { Goes result (drafted reading.new) (draft.close head done.items (drafted reading.old) (drafted reading.old).stack) }
+    ensures { Goes result (drafted reading.new)
+        (draft.close head done.items (drafted reading.old) (drafted reading.old).stack) }
 {
     match head {
         Head::Template { name, kind } => put_template(
@@ -124,7 +129,8 @@ fn close(reading: &mut SiteReading, head: Head, done: Vec<Statement>) -> Stands
 
 #[tactic(auto, using(crate::proofs::OpenStack::outward_last))]
 fn end(reading: &mut SiteReading) -> Stands
-    ensures { Goes result (drafted reading.new) (draft.end (drafted reading.old) (drafted reading.old).stack) }
+    ensures { Goes result (drafted reading.new)
+        (draft.end (drafted reading.old) (drafted reading.old).stack) }
 {
     match reading.stack.pop() {
         None => Ok(false),
@@ -136,7 +142,8 @@ fn end(reading: &mut SiteReading) -> Stands
 }
 
 fn open_template(alloc: Global, reading: &mut SiteReading, head: Head) -> Stands
-    ensures { Goes result (drafted reading.new) (draft.open_template head (drafted reading.old) (drafted reading.old).stack reading.old.pages.items) }
+    ensures { Goes result (drafted reading.new)
+        (draft.open_template head (drafted reading.old) (drafted reading.old).stack reading.old.pages.items) }
 {
     if !reading.pages.as_slice().is_empty() {
         return Ok(false);
@@ -146,7 +153,8 @@ fn open_template(alloc: Global, reading: &mut SiteReading, head: Head) -> Stands
 
 #[tactic(auto, using(crate::proofs::OpenStack::outward_last))]
 fn open_first(alloc: Global, reading: &mut SiteReading, head: Head) -> Stands
-    ensures { Goes result (drafted reading.new) (draft.open_first head (drafted reading.old) (drafted reading.old).stack) }
+    ensures { Goes result (drafted reading.new)
+        (draft.open_first head (drafted reading.old) (drafted reading.old).stack) }
 {
     match reading.stack.pop() {
         None => {
@@ -160,7 +168,8 @@ fn open_first(alloc: Global, reading: &mut SiteReading, head: Head) -> Stands
 
 #[tactic(auto, using(crate::proofs::OpenStack::outward_last))]
 fn put_first(reading: &mut SiteReading, kind: KindPart) -> Stands
-    ensures { Goes result (drafted reading.new) (draft.put_first kind (drafted reading.old) (drafted reading.old).stack) }
+    ensures { Goes result (drafted reading.new)
+        (draft.put_first kind (drafted reading.old) (drafted reading.old).stack) }
 {
     match reading.stack.pop() {
         None => {
@@ -172,7 +181,9 @@ fn put_first(reading: &mut SiteReading, kind: KindPart) -> Stands
 }
 
 fn put_kind(reading: &mut SiteReading, kind: KindPart) -> Stands
-    ensures { Goes result (drafted reading.new) (draft.put_kind kind (drafted reading.old) (drafted reading.old).stack reading.old.templates.items reading.old.pages.items) }
+    ensures { Goes result (drafted reading.new)
+        (draft.put_kind kind (drafted reading.old)
+        (drafted reading.old).stack reading.old.templates.items reading.old.pages.items) }
 {
     if !reading.templates.as_slice().is_empty() || !reading.pages.as_slice().is_empty() {
         return Ok(false);

@@ -191,7 +191,8 @@ fn family_line(words: &[&[u8]]) -> Option<SiteLine>
 }
 
 fn names(alloc: Global, words: &[&[u8]]) -> Result<Option<Listed<Name>>, AllocError>
-    ensures { IfOk result (λ read. read ≡ (if list_all is_name (seen words.now) then Some (seen words.now) else None)) }
+    ensures { IfOk result (λ read.
+        read ≡ (if list_all is_name (seen words.now) then Some (seen words.now) else None)) }
 {
     let mut names = Vec::new(alloc);
     for word in words {

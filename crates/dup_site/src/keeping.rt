@@ -9,9 +9,9 @@ use crate::site_line::{Head, SiteLine};
 use dup_names::{MAX_NESTING, MAX_STATEMENTS};
 use std::alloc::Global;
 
-/// What was read so far, of each template its first statements: one more than a good template has. A text may nest as deep as it is
-/// long; what is kept of it doesn't: behind the first statement that is too deep, or past those that
-/// are kept, `nl` stands for a statement as long as there is room.
+/// What was read so far, of each template its first statements: one more than a good template has. A
+/// text may nest as deep as it is long; what is kept of it doesn't: behind the first statement that is
+/// too deep, or past those that are kept, `nl` stands for a statement as long as there is room.
 #[derive(Drop)]
 pub struct Keeping {
     pub reading: SiteReading,
@@ -122,7 +122,8 @@ fn pass_head(alloc: Global, keeping: &mut Keeping, head: &Head) -> Stands
 
 #[tactic(auto, using(crate::proofs::OpenStack::pass_end_some, crate::proofs::OpenStack::pass_end_none))]
 fn pass_end(alloc: Global, keeping: &mut Keeping) -> Stands
-    ensures step { Goes result (keeping_of keeping.new) (kept.pass_end (keeping_of keeping.old) keeping.old.passed) }
+    ensures step { Goes result (keeping_of keeping.new)
+        (kept.pass_end (keeping_of keeping.old) keeping.old.passed) }
     ensures passed { keeping.new.passed ≤ keeping.old.passed + 1 }
 {
     if keeping.passed > 0 {

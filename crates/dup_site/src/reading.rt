@@ -42,7 +42,8 @@ fn cut_line(text: &[u8]) -> (&[u8], &[u8])
 
 fn take_line(alloc: Global, keeping: &mut Keeping, line: &[u8]) -> Result<bool, NoMemory>
     requires { keeping.old.passed < u64.MAX }
-    ensures step { Goes result (keeping_of keeping.new) (kept.keep_at (keeping_of keeping.old) (line_of line.now)) }
+    ensures step { Goes result (keeping_of keeping.new)
+        (kept.keep_at (keeping_of keeping.old) (line_of line.now)) }
     ensures passed { keeping.new.passed ≤ keeping.old.passed + 1 }
 {
     match read_line(alloc, line)? {

@@ -3,7 +3,8 @@ ghost use Rattle.std.specs.Prelude.{◌≡◌, ◌++◌, ◌∷◌, [], OnOk, If
 ghost use Rattle.std.specs.List.{list_all, flat_map};
 ghost use Rattle.dup_names.specs.Grammar.{is_name};
 ghost use Rattle.dup_site.specs.Reads.{site_says};
-ghost use Rattle.dup_site.specs.Spelling.{are_spelled, is_named, is_spelled, is_spelled_head, is_spelled_page};
+ghost use Rattle.dup_site.specs.Spelling.{are_spelled, is_named, is_spelled, is_spelled_head};
+ghost use Rattle.dup_site.specs.Spelling.{is_spelled_page};
 ghost use Rattle.dup_site.specs.Spelling.{line_text, text_says, texts, with_word, written};
 ghost use Rattle.dup_names.specs.LineWords.{spaced};
 ghost use Rattle.dup_site.specs.Canonical.{enclosed, site_lines, statement_lines, template_lines};
@@ -106,7 +107,8 @@ fn put_each(
 
 #[tactic(auto, using(std::proofs::lemmas::Bool::and_from))]
 fn put_head(head: &Head, out: &mut Out) -> Result<(), AllocError>
-    ensures text { OnOk result (out.new.items ≡ out.old.items ++ (line_text (line.Open head.now) ++ 10 ∷ [])) }
+    ensures text { OnOk result (out.new.items
+        ≡ out.old.items ++ (line_text (line.Open head.now) ++ 10 ∷ [])) }
     ensures spelled { OnOk result (is_spelled_head head.now ≡ true) }
 {
     match head {
@@ -131,7 +133,8 @@ fn put_head(head: &Head, out: &mut Out) -> Result<(), AllocError>
 fn put_enclosed(head: &Head, body: &[Statement], out: &mut Out) -> Result<(), AllocError>
     ensures text { OnOk result (out.new.items
         ≡ out.old.items ++ texts (enclosed (line.Open head.now) (map statement_lines body.now))) }
-    ensures spelled { OnOk result (are_spelled (enclosed (line.Open head.now) (map statement_lines body.now))) }
+    ensures spelled { OnOk result (are_spelled
+        (enclosed (line.Open head.now) (map statement_lines body.now))) }
 {
     put_head(head, out)?;
     put_body(body, out)?;
@@ -258,7 +261,8 @@ fn put_two(keyword: &[u8], place: &[u8], name: &Name, out: &mut Out) -> Result<(
 
 #[tactic(auto, using(std::proofs::lemmas::Bool::and_from))]
 fn put_page(rule: &PageRule, out: &mut Out) -> Result<(), AllocError>
-    ensures text { OnOk result (out.new.items ≡ out.old.items ++ (line_text (line.Page rule.now) ++ 10 ∷ [])) }
+    ensures text { OnOk result (out.new.items
+        ≡ out.old.items ++ (line_text (line.Page rule.now) ++ 10 ∷ [])) }
     ensures spelled { OnOk result (is_spelled_page rule.now ≡ true) }
 {
     match rule {

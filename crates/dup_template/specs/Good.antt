@@ -1,6 +1,7 @@
 -- The first rule that parts break, in the order in which a check looks at them.
 use Rattle.std.specs.Prelude.{◌≡◌, ℕ, ◌+◌, Bool, true, false, not, ◌&&◌, nat_eq, nat_lt, if◌then◌else◌}
-use Rattle.std.specs.Prelude.{List, [], ◌∷◌, ◌++◌, map, length, take, drop, Option, Some, None, is_some, Result, Ok, Err}
+use Rattle.std.specs.Prelude.{List, [], ◌∷◌, ◌++◌, map, length, take, drop}
+use Rattle.std.specs.Prelude.{Option, Some, None, is_some, Result, Ok, Err}
 use Rattle.std.specs.List.{list_any, find, sum_by}
 use Rattle.std.specs.Option.{option_or}
 use Rattle.dup_names.specs.Words.{Word, same}
@@ -8,9 +9,11 @@ use Rattle.dup_names.specs.Grammar.{is_key}
 use Rattle.dup_names.specs.declared.limits.TheConstants.{MAX_KINDS, MAX_FIELDS, MAX_TEMPLATES, MAX_PAGE_RULES}
 use Rattle.dup_names.specs.declared.limits.TheConstants.{MAX_STATEMENTS, MAX_NESTING}
 use Rattle.dup_template.specs.declared.refusal.What.{What}
-use Rattle.dup_template.specs.declared.refusal.What.TheVariants.{Kinds, Fields, Templates, Pages, Statements, Nesting}
+use Rattle.dup_template.specs.declared.refusal.What.TheVariants.{Kinds, Fields, Templates, Pages}
+use Rattle.dup_template.specs.declared.refusal.What.TheVariants.{Statements, Nesting}
 use Rattle.dup_template.specs.declared.refusal.SiteRefusal.{SiteRefusal}
-use Rattle.dup_template.specs.declared.refusal.SiteRefusal.TheVariants.{Twice, Unknown, LaterTemplate, WrongKind}
+use Rattle.dup_template.specs.declared.refusal.SiteRefusal.TheVariants.{Twice, Unknown, LaterTemplate}
+use Rattle.dup_template.specs.declared.refusal.SiteRefusal.TheVariants.{WrongKind}
 use Rattle.dup_template.specs.declared.refusal.SiteRefusal.TheVariants.{NoPage, PathClash, TooMany, NoMemory}
 use Rattle.dup_template.specs.declared.site.Parts.{Parts}
 use Rattle.dup_template.specs.declared.site.KindPart.{KindPart}
@@ -20,9 +23,11 @@ use Rattle.dup_template.specs.declared.site.PageRule.TheVariants.{Fixed, Family}
 use Rattle.dup_template.specs.declared.statement.Statement.{Statement, fold-Statement}
 use Rattle.dup_template.specs.declared.statement.Statement.TheOpen.{Statement-F}
 
+-- the rule that is broken, if one is
 abbrev pub Fault : Type 0
 Fault = Option SiteRefusal
 
+-- whether a name is among names
 abbrev pub has : Word → List Word → Bool
 has w ws = list_any (λ x. same x w) ws
 
@@ -30,6 +35,7 @@ has w ws = list_any (λ x. same x w) ws
 abbrev pub unless : Bool → SiteRefusal → Fault
 unless holds fault = if holds then None else Some fault
 
+-- no more than the limit
 abbrev pub at_most : ℕ → What → ℕ → Fault
 at_most limit what n = unless (not (nat_lt limit n)) (TooMany what)
 
@@ -38,6 +44,7 @@ abbrev pub first_from : {X : Type 0} → (List X → X → Fault) → List X →
 first_from rule earlier [] = None
 first_from rule earlier (x ∷ xs) = option_or (rule earlier x) (first_from rule (earlier ++ x ∷ []) xs)
 
+-- no earlier one has the name
 abbrev pub new_name : List Word → Word → Fault
 new_name earlier name = unless (not (has name earlier)) (Twice name)
 
@@ -58,6 +65,7 @@ kinds_fault ks = option_or (at_most MAX_KINDS Kinds (length ks)) (first_from kin
 abbrev pub template_names : List TemplatePart → List Word
 template_names ts = map (λ t. t.name) ts
 
+-- there is a kind of this name, where one is named
 abbrev pub kind_known : List KindPart → Option Word → Fault
 kind_known kinds None = None
 kind_known kinds (Some k) = unless (has k (kind_names kinds)) (Unknown k)
@@ -66,7 +74,8 @@ abbrev pub head_fault : List KindPart → List TemplatePart → TemplatePart →
 head_fault kinds earlier t = option_or (new_name (template_names earlier) t.name) (kind_known kinds t.kind)
 
 abbrev pub heads_fault : List KindPart → List TemplatePart → Fault
-heads_fault kinds ts = option_or (at_most MAX_TEMPLATES Templates (length ts)) (first_from (head_fault kinds) [] ts)
+heads_fault kinds ts =
+    option_or (at_most MAX_TEMPLATES Templates (length ts)) (first_from (head_fault kinds) [] ts)
 
 -- 3. Declarations of pages
 abbrev pub shown_by : PageRule → Word
@@ -80,7 +89,8 @@ place_of (Family prefix of) = prefix
 
 -- what follows the prefix, where the path begins with it
 abbrev pub behind : Word → Word → Option Word
-behind prefix path = if same (take (length prefix) path) prefix then Some (drop (length prefix) path) else None
+behind prefix path =
+    if same (take (length prefix) path) prefix then Some (drop (length prefix) path) else None
 
 abbrev pub is_slash_key : Option Word → Bool
 is_slash_key None = false
@@ -91,6 +101,7 @@ is_slash_key (Some (x ∷ xs)) = nat_eq x 47 && is_key xs
 abbrev pub is_in_family : Word → Word → Bool
 is_in_family prefix path = is_slash_key (behind prefix path)
 
+-- two declarations that may be of one path
 abbrev pub meet : PageRule → PageRule → Bool
 meet (Fixed p t) (Fixed q u) = same p q
 meet (Fixed p t) (Family q u) = is_in_family q p
@@ -101,6 +112,7 @@ abbrev pub is_of_its_kind : PageRule → Option Word → Bool
 is_of_its_kind (Fixed path of) kind = not (is_some kind)
 is_of_its_kind (Family prefix of) kind = is_some kind
 
+-- the template with this name
 abbrev pub find_template : List TemplatePart → Word → Option TemplatePart
 find_template ts name = find (λ t. same t.name name) ts
 
@@ -108,6 +120,7 @@ abbrev pub shows_fault : PageRule → Option TemplatePart → Fault
 shows_fault rule None = Some (Unknown (shown_by rule))
 shows_fault rule (Some t) = unless (is_of_its_kind rule t.kind) (WrongKind (shown_by rule))
 
+-- whether a template has a page
 abbrev pub declared : List PageRule → Word → Bool
 declared rules name = list_any (λ r. same (shown_by r) name) rules
 
@@ -118,12 +131,14 @@ page_fault ts earlier rule =
     (unless (not (list_any (λ r. meet r rule) earlier)) (PathClash (place_of rule))))
 
 abbrev pub pages_fault : List TemplatePart → List PageRule → Fault
-pages_fault ts rules = option_or (at_most MAX_PAGE_RULES Pages (length rules)) (first_from (page_fault ts) [] rules)
+pages_fault ts rules =
+    option_or (at_most MAX_PAGE_RULES Pages (length rules)) (first_from (page_fault ts) [] rules)
 
 -- 4. Bodies
 abbrev pub find_kind : List KindPart → Word → Option KindPart
 find_kind ks name = find (λ k. same k.name name) ks
 
+-- the fields of a kind, none where it isn't there
 abbrev pub fields_of : Option KindPart → List Word
 fields_of None = []
 fields_of (Some k) = k.fields
@@ -149,7 +164,8 @@ order_fault site of (Some f) = field_known site of f
 
 abbrev pub each_fault : Parts → Word → Option Word → Word → Option Word → Option Word → Fault
 each_fault site own kind of by order =
-    option_or (kind_known site.kinds (Some of)) (option_or (by_fault site own kind of by) (order_fault site of order))
+    option_or (kind_known site.kinds (Some of))
+    (option_or (by_fault site own kind of by) (order_fault site of order))
 
 -- no kind, or the current one
 abbrev pub is_current : Option Word → Option Word → Bool
@@ -160,12 +176,15 @@ is_current (Some c) (Some k) = same c k
 -- the rule on the kind of the embedded or linked template
 abbrev pub to_fault : Parts → Word → Option Word → Word → Option Word → Option Word → Fault
 to_fault site own current name None kind = unless (is_current current kind) (WrongKind name)
-to_fault site own current name (Some via) kind = option_or (unless (is_some kind) (WrongKind name)) (field_fault site own current via)
+to_fault site own current name (Some via) kind =
+    option_or (unless (is_some kind) (WrongKind name)) (field_fault site own current via)
 
-abbrev pub embed_fault : Parts → List TemplatePart → Word → Option Word → Word → Option Word → Option TemplatePart → Fault
+abbrev pub embed_fault :
+    Parts → List TemplatePart → Word → Option Word → Word → Option Word → Option TemplatePart → Fault
 embed_fault site earlier own current name via None = Some (Unknown name)
 embed_fault site earlier own current name via (Some u) =
-    option_or (unless (has name (template_names earlier)) (LaterTemplate name)) (to_fault site own current name via u.kind)
+    option_or (unless (has name (template_names earlier)) (LaterTemplate name))
+    (to_fault site own current name via u.kind)
 
 abbrev pub link_fault : Parts → Word → Option Word → Word → Option Word → Option TemplatePart → Fault
 link_fault site own current name via None = Some (Unknown name)
@@ -198,11 +217,14 @@ own_rule site earlier own (Statement-F.Link name via body) kind depth =
 
 -- its depth first
 abbrev pub rule : Parts → List TemplatePart → Word → Statement-F Rule → Rule
-rule site earlier own s kind depth = option_or (at_most MAX_NESTING Nesting depth) (own_rule site earlier own s kind depth)
+rule site earlier own s kind depth =
+    option_or (at_most MAX_NESTING Nesting depth) (own_rule site earlier own s kind depth)
 
+-- the first rule that a statement breaks
 abbrev pub statement_fault : Parts → List TemplatePart → Word → Statement → Rule
 statement_fault site earlier own = fold-Statement Rule (rule site earlier own)
 
+-- the first rule that the statements of a body break
 abbrev pub body_fault : Parts → List TemplatePart → Word → List Statement → Rule
 body_fault site earlier own body = in_turn (map (statement_fault site earlier own) body)
 
@@ -217,9 +239,11 @@ size_step (Statement-F.Each of by order body) = 1 + sum_by (λ n. n) body
 size_step (Statement-F.Embed name via) = 1
 size_step (Statement-F.Link name via body) = 1 + sum_by (λ n. n) body
 
+-- how many statements a statement is
 abbrev pub size : Statement → ℕ
 size = fold-Statement ℕ size_step
 
+-- the statements of a body
 abbrev pub body_size : List Statement → ℕ
 body_size body = sum_by (λ n. n) (map size body)
 
@@ -227,6 +251,7 @@ body_size body = sum_by (λ n. n) (map size body)
 abbrev pub capped : ℕ → ℕ
 capped n = if nat_lt MAX_STATEMENTS n then MAX_STATEMENTS + 1 else n
 
+-- the statements of a template: how many they are, and then their rules
 abbrev pub template_fault : Parts → List TemplatePart → TemplatePart → Fault
 template_fault site earlier t =
     option_or (at_most MAX_STATEMENTS Statements (body_size t.body))
@@ -235,6 +260,7 @@ template_fault site earlier t =
 abbrev pub bodies_fault : Parts → Fault
 bodies_fault site = first_from (template_fault site) [] site.templates
 
+-- the rules in their order
 abbrev pub site_fault : Parts → Fault
 site_fault site =
     option_or (kinds_fault site.kinds)
@@ -245,6 +271,7 @@ site_fault site =
 abbrev pub no_fault : Fault
 no_fault = None
 
+-- parts that break no rule
 abbrev pub IsGood : Parts → Type 0
 IsGood site = site_fault site ≡ None
 

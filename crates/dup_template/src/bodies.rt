@@ -144,7 +144,9 @@ fn embed_holds(
     name: &Name,
     via: &Option<Name>,
 ) -> Checked
-    ensures { result_err result ≡ good.embed_fault site.now earlier.now own.now current.now name.now via.now (good.find_template site.now.templates name.now) }
+    ensures { result_err result
+        ≡ good.embed_fault site.now earlier.now own.now current.now name.now via.now
+        (good.find_template site.now.templates name.now) }
 {
     match find_template(site.templates.items(), name) {
         None => Err(SiteRefusal::Unknown(*name)),
@@ -164,7 +166,9 @@ fn link_holds(
     name: &Name,
     via: &Option<Name>,
 ) -> Checked
-    ensures { result_err result ≡ good.link_fault site.now own.now current.now name.now via.now (good.find_template site.now.templates name.now) }
+    ensures { result_err result
+        ≡ good.link_fault site.now own.now current.now name.now via.now
+        (good.find_template site.now.templates name.now) }
 {
     match find_template(site.templates.items(), name) {
         None => Err(SiteRefusal::Unknown(*name)),
@@ -186,7 +190,8 @@ fn statement_holds(
     kind: &Option<Name>,
     depth: usize,
 ) -> Checked
-    ensures { result_err result ≡ good.statement_fault site.now earlier.now own.now statement.now kind.now depth }
+    ensures { result_err result
+        ≡ good.statement_fault site.now earlier.now own.now statement.now kind.now depth }
 {
     at_most(MAX_NESTING, What::Nesting, depth)?;
     match statement {

@@ -278,7 +278,8 @@ fn is_of_its_kind(rule: &PageRule, kind: &Option<Name>) -> bool
 }
 
 fn shows_one(templates: &[TemplatePart], rule: &PageRule) -> Checked
-    ensures { result_err result ≡ good.shows_fault rule.now (good.find_template templates.now (good.shown_by rule.now)) }
+    ensures { result_err result
+        ≡ good.shows_fault rule.now (good.find_template templates.now (good.shown_by rule.now)) }
 {
     let name = shown_by(rule);
     match find_template(templates, &name) {

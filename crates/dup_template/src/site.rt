@@ -2,7 +2,8 @@
 ghost use Rattle.std.specs.Prelude.{◌≡◌, ◌≤◌, length, IfOk};
 ghost use Rattle.std.specs.List.{slice_get};
 ghost use Rattle.dup_names.specs.Words.{place};
-ghost use Rattle.dup_names.specs.declared.limits.TheConstants.{MAX_FIELDS, MAX_KINDS, MAX_PAGE_RULES, MAX_TEMPLATES};
+ghost use Rattle.dup_names.specs.declared.limits.TheConstants.{MAX_FIELDS, MAX_KINDS, MAX_PAGE_RULES};
+ghost use Rattle.dup_names.specs.declared.limits.TheConstants.{MAX_TEMPLATES};
 ghost use Rattle.dup_template.specs.Good as good;
 ghost use Rattle.std.specs.Result.{result_err};
 

@@ -48,6 +48,6 @@ fn refusals_are_printed(rt: HostRuntime) {
     ];
     for (refusal, text) in &rows {
         let printed = format!(in alloc; "{refusal}").ok().expect(&rt, "memory");
-        assert!(rt; printed.as_str() == *text);
+        assert!(rt; printed.as_str() == *text, "at {text}");
     }
 }

@@ -18,3 +18,4 @@ pub mod MachineBundles
 pub mod MachineSteps
 pub mod MachineScripts
 pub mod ScriptRuns
+pub mod OnlyTable

@@ -32,7 +32,8 @@ use Rattle.dup_model.specs.Pages.{target}
 use Rattle.dup_machine.specs.Press.{committed, target_of}
 use Rattle.dup_machine.specs.Presses.{commit_told}
 use Rattle.dup_machine.specs.Run.{step}
-use Rattle.dup_transcript.specs.Sessions.{IsPutting, Published, Session, after_command, get_text, has_node, page_text, play_answer, settled, settled_edition, whole_site, with_pages}
+use Rattle.dup_transcript.specs.Sessions.{IsPutting, Published, Session, after_command, get_text, has_node, page_text, play_answer, settled, settled_edition, with_pages}
+use Rattle.dup_model.specs.Pages.{page_looks}
 use Rattle.dup_model.specs.Show.{show}
 use Rattle.dup_machine.specs.Settle.{publishes}
 use Rattle.dup_transcript.specs.Texts.{told_text}
@@ -330,7 +331,7 @@ module _ (site : Parts) (limits : Limits) (form : is_first_form site ≡ true) w
     abbrev pub rows_pages : List (Path × Look)
     rows_pages = pages_from site last (table last 0)
 
-    pub all_pages : whole_site last ≡ rows_pages
+    pub all_pages : page_looks last ≡ rows_pages
     all_pages = (row_pages site last form (content_of site s.commits) (versions_rise site s.commits)).pages
 
     pub rising : IsRising (table last 0)

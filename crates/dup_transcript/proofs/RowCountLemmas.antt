@@ -19,19 +19,19 @@ use Rattle.dup_model.proofs.Ordering.{any_in_order, any_append}
 use Rattle.dup_model.proofs.Incremental.{item_tied}
 use Rattle.dup_model.proofs.Objects.{in_filter, filter_same}
 use Rattle.dup_transcript.specs.RowPages.{row_object}
-use Rattle.dup_transcript.specs.RowCounts.{is_read_anew, is_renewed, RowsAreCounted}
+use Rattle.dup_transcript.specs.RowCounts.{is_touched_at, is_renewed, RowsAreCounted}
 use Rattle.dup_transcript.proofs.RowPageLemmas.{row_pages, one_object}
 use Rattle.dup_model.proofs.SameWords.{same_back}
 
-body_reads : (a b : Content) (key : Word) (body : List Statement) → list_any (differs a b) (flat_map read_by (body_marks a body (row_at 0 (Some key)))) ≡ list_any (is_read_anew a b key) body
+body_reads : (a b : Content) (key : Word) (body : List Statement) → list_any (differs a b) (flat_map read_by (body_marks a body (row_at 0 (Some key)))) ≡ list_any (is_touched_at a b key) body
 body_reads a b key [] = refl
 body_reads a b key (x ∷ xs) =
     ap (list_any (differs a b)) (flat_map-append read_by (statement_marks a x (row_at 0 (Some key))) (body_marks a xs (row_at 0 (Some key))))
     ∙ any_append (differs a b) (flat_map read_by (statement_marks a x (row_at 0 (Some key)))) (flat_map read_by (body_marks a xs (row_at 0 (Some key))))
-    ∙ ap (λ (v : Bool). is_read_anew a b key x || v) (body_reads a b key xs)
+    ∙ ap (λ (v : Bool). is_touched_at a b key x || v) (body_reads a b key xs)
 
 -- a row's object is touched where a statement of its template reads an item that differs
-row_touched : (a b : Content) (key : Word) → here_at a (row_object key) ≡ row_at 0 (Some key) → touched a b (row_object key) ≡ list_any (is_read_anew a b key) (body_at a 0)
+row_touched : (a b : Content) (key : Word) → here_at a (row_object key) ≡ row_at 0 (Some key) → touched a b (row_object key) ≡ list_any (is_touched_at a b key) (body_at a 0)
 row_touched a b key here =
     any_in_order item_cmp (differs a b) (λ x y tie. ap (differs a b) (item_tied x y tie)) (flat_map read_by (marks a (row_object key)))
     ∙ ap (λ h. list_any (differs a b) (flat_map read_by (body_marks a (body_at a 0) h))) here

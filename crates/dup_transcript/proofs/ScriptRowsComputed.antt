@@ -22,7 +22,8 @@ use Rattle.dup_transcript.specs.Inputs.{script}
 use Rattle.dup_transcript.specs.MachinePlays.{MachinePlays, limits_for}
 use Rattle.dup_model.specs.Pages.{live}
 use Rattle.dup_transcript.specs.PressRows.{events_site, page, title}
-use Rattle.dup_transcript.specs.Sessions.{PlaysCommands, Published, Session, after_command, first_session, page_text, play_answer, settled, settled_edition, whole_site, with_pages}
+use Rattle.dup_transcript.specs.Sessions.{PlaysCommands, Published, Session, after_command, first_session, page_text, play_answer, settled, settled_edition, with_pages}
+use Rattle.dup_model.specs.Pages.{page_looks}
 use Rattle.dup_transcript.specs.Texts.{settled_text}
 use Rattle.dup_transcript.specs.ScriptRows.{ScriptRow, input, output}
 use Rattle.dup_model.specs.Touched.{is_in, without}
@@ -61,7 +62,7 @@ newest = record { number = 1; edition = fin.insert fin.empty path shown }
 abbrev settled_session : Session
 settled_session = record committed { target = Some 1; number = 1; edition = fin.insert fin.empty path shown }
 
-whole : whole_site made ≡ (path, page_look) ∷ []
+whole : page_looks made ≡ (path, page_look) ∷ []
 whole = simp (marks-Say, marks-Field) refl
 
 live_one : live made ≡ page ∷ []

@@ -15,14 +15,12 @@ use Rattle.dup_machine.proofs.Runs.{headline}
 use Rattle.dup_transcript.specs.declared.command.Command.TheVariants as command
 use Rattle.dup_transcript.specs.declared.task.Task.TheVariants.{Play}
 use Rattle.dup_transcript.specs.Commands.{Command}
-use Rattle.dup_transcript.specs.BadSites.{or_cause}
 use Rattle.dup_transcript.specs.Inputs.{script, site_is_read, site_lines, site_text}
 use Rattle.dup_transcript.specs.MachinePlays.{IsReady, MachinePlays, StandsFor, limits_for}
 use Rattle.dup_transcript.specs.ScriptRuns.{HasRun, IsRun, LeavesNothing, PlaysEvents, TranscriptsAreRuns}
-use Rattle.dup_transcript.specs.Transcript.{DoesRead, DoesSite, Grammars, PlaysScript, commands, site_for, site_ok, too_long}
+use Rattle.dup_transcript.specs.Transcript.{DoesRead, DoesSite, GivesGoodSites, Grammars, PlaysScript, commands, site_for, site_ok, too_long}
 use Rattle.dup_transcript.proofs.MachineAnswers.{commands_leave_ready, settles_leave_nothing, starts_ready}
-use Rattle.dup_transcript.proofs.RowPageLemmas.{embeds_earlier}
-use Rattle.dup_transcript.proofs.Transcripts.{played_form}
+use Rattle.dup_transcript.proofs.Transcripts.{played_embeds}
 
 module _ (site : Parts) (limits : Limits) (earlier : EmbedsEarlier (start site)) where
   behind : (before events : List Event) → run site limits (before ++ events) ≡ fold (step site limits) (run site limits before) events
@@ -51,26 +49,26 @@ module _ (site : Parts) (limits : Limits) (earlier : EmbedsEarlier (start site))
       subst (λ w. LeavesNothing site w c) (sym after) (leaves c (run site limits before) (number + 1) plays.0 plays.1.0 r plays.1.1.1) in
       (rest.0, (plays.0, (plays.1.0, (plays.1.1.0, plays.1.1.1, plays.1.1.2, nothing, rest.1))))
 
-script_runs : (g : Grammars) (input : Reading) (site : Parts) (out : Word) → site_for g Play (site_text input) ≡ Ok site →
+script_runs : (g : Grammars) → GivesGoodSites g → (input : Reading) (site : Parts) (out : Word) → site_for g Play (site_text input) ≡ Ok site →
     (more : Word) × (out ≡ site_ok ++ more) × PlaysScript g.feed site (site_lines input) (script input) more → HasRun g input out
-script_runs g input site out is plays other read same =
+script_runs g good input site out is plays other read same =
     let one : site ≡ other = cc in
     let limits : Limits = limits_for (commands g.feed (script input)) in
-    let earlier : EmbedsEarlier (start site) = embeds_earlier site (played_form (or_cause (g.site (site_text input))) site is) in
+    let earlier : EmbedsEarlier (start site) = played_embeds g good (site_text input) site is in
     let run_of : (all : List Event) × PlaysEvents site limits [] (site_lines input) (commands g.feed (script input)) (too_long (script input)) plays.0 all =
     collect site limits earlier (commands g.feed (script input)) [] (site_lines input) (too_long (script input)) plays.0 starts_ready plays.2 in
     subst (λ s. (more : Word) × (out ≡ site_ok ++ more) × IsRun g.feed s (site_lines input) (script input) more) one
     (plays.0, plays.1, (run_of.0, run_of.1, headline site limits run_of.0))
 
-site_runs : (g : Grammars) (input : Reading) (site : Result Parts Word) (status : ℕ) (out : Word) → site_for g Play (site_text input) ≡ site →
+site_runs : (g : Grammars) → GivesGoodSites g → (input : Reading) (site : Result Parts Word) (status : ℕ) (out : Word) → site_for g Play (site_text input) ≡ site →
     DoesSite g Play site input status out → HasRun g input out
-site_runs g input (Ok site) status out is does = script_runs g input site out is does.1
-site_runs g input (Err why) status out is does = λ other read same. absurd (cc)
+site_runs g good input (Ok site) status out is does = script_runs g good input site out is does.1
+site_runs g good input (Err why) status out is does = λ other read same. absurd (cc)
 
-read_runs : (g : Grammars) (input : Reading) (read : Bool) (status : ℕ) (out : Word) → site_is_read input ≡ read →
+read_runs : (g : Grammars) → GivesGoodSites g → (input : Reading) (read : Bool) (status : ℕ) (out : Word) → site_is_read input ≡ read →
     DoesRead g Play read input status out → HasRun g input out
-read_runs g input true status out is does = site_runs g input (site_for g Play (site_text input)) status out refl does
-read_runs g input false status out is does = λ site read same. absurd (cc)
+read_runs g good input true status out is does = site_runs g good input (site_for g Play (site_text input)) status out refl does
+read_runs g good input false status out is does = λ site read same. absurd (cc)
 
 pub transcripts_are_runs : TranscriptsAreRuns
-transcripts_are_runs g input status out is = read_runs g input (site_is_read input) status out refl is
+transcripts_are_runs g good input status out is = read_runs g good input (site_is_read input) status out refl is

@@ -30,7 +30,8 @@ use Rattle.dup_transcript.specs.declared.command.Command.TheVariants as command
 use Rattle.dup_transcript.specs.FirstForm.{is_first_form}
 use Rattle.dup_transcript.specs.RowPages.{prefix_in, row_page, row_path}
 use Rattle.dup_model.specs.Journal.{refused_behind}
-use Rattle.dup_transcript.specs.Sessions.{IsPutting, Session, Published, with_pages, with_page, shows, whole_site, after_command, settled, first_session, has_node}
+use Rattle.dup_transcript.specs.Sessions.{IsPutting, Session, Published, with_pages, with_page, shows, after_command, settled, first_session, has_node}
+use Rattle.dup_model.specs.Pages.{page_looks}
 use Rattle.dup_model.proofs.Reached.{tie_same}
 use Rattle.dup_model.proofs.Rising.{text_cmp_front}
 use Rattle.dup_transcript.proofs.RowPageLemmas.{rising_table, row_pages}
@@ -152,7 +153,7 @@ module _ (site : Parts) (form : is_first_form site ≡ true) where
   settled_looks s q =
       let c = content site s.commits in
       let rise = versions_rise site s.commits in
-      let pages : whole_site c ≡ pages_from site c (table c 0) = (row_pages site c form (content_of site s.commits) rise).pages in
+      let pages : page_looks c ≡ pages_from site c (table c 0) = (row_pages site c form (content_of site s.commits) rise).pages in
       ap (λ (l : List (Path × Look)). looks (with_pages (length s.commits) l (record { number = s.number; edition = s.edition })).edition q) pages
       ∙ published_looks (length s.commits) (pages_from site c (table c 0)) (distinct_rows site c (table c 0) (rising_table c.tables rise)) (record { number = s.number; edition = s.edition }) q
 
@@ -188,10 +189,10 @@ module _ (site : Parts) (form : is_first_form site ≡ true) where
   pub whole_after : (s : Session) → Covers s → (q : Path) → looks (settled site s).edition q ≡ target_looks (target (content site s.commits)) q
   whole_after s h q =
       let c = content site s.commits in
-      let pages : whole_site c ≡ pages_from site c (table c 0) = (row_pages site c form (content_of site s.commits) (versions_rise site s.commits)).pages in
+      let pages : page_looks c ≡ pages_from site c (table c 0) = (row_pages site c form (content_of site s.commits) (versions_rise site s.commits)).pages in
       settled_looks s q
       ∙ by_find (fin.find text_cmp q (pages_from site c (table c 0))) (looks s.edition q) (λ there. found_rows site c q (table c 0) ∙ h q there)
-      ∙ sym (fin.get-from_entries nat_list_cmp_total (whole_site c) q ∙ ap (fin.find text_cmp q) pages)
+      ∙ sym (fin.get-from_entries nat_list_cmp_total (page_looks c) q ∙ ap (fin.find text_cmp q) pages)
     where
       by_find : (a b : Option Look) → (is_some b ≡ true → is_some a ≡ true) → option_or a b ≡ a
       by_find (Some a) b is = refl

@@ -3,17 +3,20 @@ use Rattle.std.proofs.Common.{◌≡◌, ℕ, Bool, true, false, refl, sym, ap, 
 use Rattle.std.specs.Prelude.{Result, Ok, Err, if◌then◌else◌}
 use Rattle.dup_names.specs.Lines.{Reading}
 use Rattle.dup_names.specs.Words.{Word}
+use Rattle.dup_template.specs.declared.refusal.SiteTextRefusal.{SiteTextRefusal}
 use Rattle.dup_template.specs.declared.site.Parts.{Parts}
+use Rattle.dup_model.specs.Content.{start}
+use Rattle.dup_model.specs.Embeddings.{EmbedsEarlier}
 use Rattle.dup_transcript.specs.BadSites.{or_cause}
 use Rattle.dup_transcript.specs.FirstForm.{not_built_site, or_not_built}
 use Rattle.dup_transcript.specs.FirstForm.{is_first_form}
 use Rattle.dup_transcript.specs.Inputs.{script, site_is_read, site_lines, site_text}
 use Rattle.dup_transcript.specs.MachinePlays.{limits_for}
-use Rattle.dup_transcript.specs.Transcript.{Does, DoesRead, DoesSite, Grammars, PlaysScript, TranscriptsAreOne, TranscriptsExist, commands, ending, rendered, site_for, site_ok, too_long}
+use Rattle.dup_transcript.specs.Transcript.{Does, DoesRead, DoesSite, GivesGoodSites, Grammars, PlaysScript, TranscriptsAreOne, TranscriptsExist, commands, ending, rendered, site_for, site_ok, too_long}
 use Rattle.dup_transcript.specs.declared.task.Task.{Task}
 use Rattle.dup_transcript.specs.declared.task.Task.TheVariants.{Play, Check, Render}
 use Rattle.dup_transcript.proofs.MachineAnswers.{plays_are_one, plays_exist}
-use Rattle.dup_transcript.proofs.RowPageLemmas.{embeds_earlier}
+use Rattle.dup_model.proofs.GoodSites.{good_embeds_earlier}
 
 -- a site that is played is of the first form
 pub played_form : (text : Result Parts Word) (site : Parts) → or_not_built text ≡ Ok site → is_first_form site ≡ true
@@ -24,49 +27,66 @@ played_form (Ok p) site is = by_test (is_first_form p) refl is
     by_test true form is = let e : p ≡ site = cc in ap is_first_form (sym e) ∙ form
     by_test false form is = absurd (cc)
 
+-- a site that is played is one that its text gives
+one_played : (p site : Parts) → or_not_built (Ok p) ≡ Ok site → p ≡ site
+one_played p site is = by_test (is_first_form p) is
+  where
+    by_test : (b : Bool) → (if b then Ok p else Err not_built_site) ≡ Ok site → p ≡ site
+    by_test true is = cc
+    by_test false is = absurd (cc)
+
+played : (text : Result Parts SiteTextRefusal) (site : Parts) → or_not_built (or_cause text) ≡ Ok site → text ≡ Ok site
+played (Err why) site is = absurd (cc)
+played (Ok p) site is = ap (λ q. let r : Result Parts SiteTextRefusal = Ok q in r) (one_played p site is)
+
+-- its templates embed earlier ones
+pub played_embeds : (g : Grammars) → GivesGoodSites g → (text : Word) (site : Parts) → site_for g Play text ≡ Ok site → EmbedsEarlier (start site)
+played_embeds g good text site is =
+    good_embeds_earlier site (start site) (good text site (played (g.site text) site is)) (record { frame = refl; bodies = refl })
+
 -- the site of a text, where a task takes it
 abbrev IsTaken : Grammars → Task → Parts → Type 0
 IsTaken g task site = (text : Word) × (site_for g task text ≡ Ok site)
 
-does_one : (g : Grammars) (task : Task) (site : Parts) (input : Reading) → IsTaken g task site → (status : ℕ) × ((out : Word) × Does g task site input status out)
-does_one g Play site input taken =
+does_one : (g : Grammars) → GivesGoodSites g → (task : Task) (site : Parts) (input : Reading) → IsTaken g task site → (status : ℕ) × ((out : Word) × Does g task site input status out)
+does_one g good Play site input taken =
     let played : (out : Word) × PlaysScript g.feed site (site_lines input) (script input) out =
-    plays_exist site (limits_for (commands g.feed (script input))) (site_lines input) (commands g.feed (script input)) (too_long (script input)) (embeds_earlier site (played_form (or_cause (g.site taken.0)) site taken.1)) in
+    plays_exist site (limits_for (commands g.feed (script input))) (site_lines input) (commands g.feed (script input)) (too_long (script input)) (played_embeds g good taken.0 site taken.1) in
     (ending input, (site_ok ++ played.0, (refl, (played.0, refl, played.1))))
-does_one g Check site input taken = (0, (g.canonical site, (refl, refl)))
-does_one g Render site input taken = (ending input, (rendered g.feed site [] (site_lines input) (script input), (refl, refl)))
+does_one g good Check site input taken = (0, (g.canonical site, (refl, refl)))
+does_one g good Render site input taken = (ending input, (rendered g.feed site [] (site_lines input) (script input), (refl, refl)))
 
-site_done : (g : Grammars) (task : Task) (text : Word) (site : Result Parts Word) (input : Reading) → site_for g task text ≡ site → (status : ℕ) × ((out : Word) × DoesSite g task site input status out)
-site_done g task text (Ok site) input is = does_one g task site input (text, is)
-site_done g task text (Err why) input is = (5, (why, (refl, refl)))
+site_done : (g : Grammars) → GivesGoodSites g → (task : Task) (text : Word) (site : Result Parts Word) (input : Reading) → site_for g task text ≡ site → (status : ℕ) × ((out : Word) × DoesSite g task site input status out)
+site_done g good task text (Ok site) input is = does_one g good task site input (text, is)
+site_done g good task text (Err why) input is = (5, (why, (refl, refl)))
 
-read_done : (g : Grammars) (task : Task) (read : Bool) (input : Reading) → (status : ℕ) × ((out : Word) × DoesRead g task read input status out)
-read_done g task true input = site_done g task (site_text input) (site_for g task (site_text input)) input refl
-read_done g task false input = (7, (too_long input, (refl, refl)))
+read_done : (g : Grammars) → GivesGoodSites g → (task : Task) (read : Bool) (input : Reading) → (status : ℕ) × ((out : Word) × DoesRead g task read input status out)
+read_done g good task true input = site_done g good task (site_text input) (site_for g task (site_text input)) input refl
+read_done g good task false input = (7, (too_long input, (refl, refl)))
 
 pub transcripts_exist : TranscriptsExist
-transcripts_exist g task input = read_done g task (site_is_read input) input
+transcripts_exist g good task input = read_done g good task (site_is_read input) input
 
 -- two transcripts are one
-one_task : (g : Grammars) (task : Task) (site : Parts) (input : Reading) (s t : ℕ) (out other : Word) → IsTaken g task site → Does g task site input s out → Does g task site input t other
+one_task : (g : Grammars) → GivesGoodSites g → (task : Task) (site : Parts) (input : Reading) (s t : ℕ) (out other : Word) → IsTaken g task site → Does g task site input s out → Does g task site input t other
     → (s ≡ t) × (out ≡ other)
-one_task g Play site input s t out other taken a b = (
+one_task g good Play site input s t out other taken a b = (
   a.0 ∙ sym b.0,
   a.1.1 ∙ ap (λ (more : Word). site_ok ++ more) (plays_are_one site (limits_for (commands g.feed (script input))) (site_lines input) (commands g.feed (script input)) (too_long (script input)) a.1.0 b.1.0
-      (embeds_earlier site (played_form (or_cause (g.site taken.0)) site taken.1)) a.1.2 b.1.2) ∙ sym b.1.1,
+      (played_embeds g good taken.0 site taken.1) a.1.2 b.1.2) ∙ sym b.1.1,
 )
-one_task g Check site input s t out other taken a b = (a.0 ∙ sym b.0, a.1 ∙ sym b.1)
-one_task g Render site input s t out other taken a b = (a.0 ∙ sym b.0, a.1 ∙ sym b.1)
+one_task g good Check site input s t out other taken a b = (a.0 ∙ sym b.0, a.1 ∙ sym b.1)
+one_task g good Render site input s t out other taken a b = (a.0 ∙ sym b.0, a.1 ∙ sym b.1)
 
-one_site : (g : Grammars) (task : Task) (text : Word) (site : Result Parts Word) (input : Reading) (s t : ℕ) (out other : Word) → site_for g task text ≡ site → DoesSite g task site input s out
+one_site : (g : Grammars) → GivesGoodSites g → (task : Task) (text : Word) (site : Result Parts Word) (input : Reading) (s t : ℕ) (out other : Word) → site_for g task text ≡ site → DoesSite g task site input s out
     → DoesSite g task site input t other → (s ≡ t) × (out ≡ other)
-one_site g task text (Ok site) input s t out other is a b = one_task g task site input s t out other (text, is) a b
-one_site g task text (Err why) input s t out other is a b = (a.0 ∙ sym b.0, a.1 ∙ sym b.1)
+one_site g good task text (Ok site) input s t out other is a b = one_task g good task site input s t out other (text, is) a b
+one_site g good task text (Err why) input s t out other is a b = (a.0 ∙ sym b.0, a.1 ∙ sym b.1)
 
-one_read : (g : Grammars) (task : Task) (read : Bool) (input : Reading) (s t : ℕ) (out other : Word) → DoesRead g task read input s out
+one_read : (g : Grammars) → GivesGoodSites g → (task : Task) (read : Bool) (input : Reading) (s t : ℕ) (out other : Word) → DoesRead g task read input s out
     → DoesRead g task read input t other → (s ≡ t) × (out ≡ other)
-one_read g task true input s t out other a b = one_site g task (site_text input) (site_for g task (site_text input)) input s t out other refl a b
-one_read g task false input s t out other a b = (a.0 ∙ sym b.0, a.1 ∙ sym b.1)
+one_read g good task true input s t out other a b = one_site g good task (site_text input) (site_for g task (site_text input)) input s t out other refl a b
+one_read g good task false input s t out other a b = (a.0 ∙ sym b.0, a.1 ∙ sym b.1)
 
 pub transcripts_are_one : TranscriptsAreOne
-transcripts_are_one g task input s t out other a b = one_read g task (site_is_read input) input s t out other a b
+transcripts_are_one g good task input s t out other a b = one_read g good task (site_is_read input) input s t out other a b

@@ -19,3 +19,4 @@ pub mod ScriptRows
 pub mod RowPages
 pub mod RowCounts
 pub mod ScriptRuns
+pub mod OnlyTable

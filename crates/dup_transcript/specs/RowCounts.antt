@@ -14,13 +14,13 @@ use Rattle.dup_model.specs.Touched.{differs, expanded, joined, is_in, without}
 use Rattle.dup_transcript.specs.FirstForm.{is_first_form, is_simple}
 
 -- an item that a statement reads at a row differs
-abbrev pub is_read_anew : Content → Content → Word → Statement → Bool
-is_read_anew a b key s = list_any (differs a b) (flat_map read_by (statement_marks a s (row_at 0 (Some key))))
+abbrev pub is_touched_at : Content → Content → Word → Statement → Bool
+is_touched_at a b key s = list_any (differs a b) (flat_map read_by (statement_marks a s (row_at 0 (Some key))))
 
 -- the row is new, or a field that its template reads differs
 abbrev pub is_renewed : Option Content → Content → Word → Bool
 is_renewed None b key = true
-is_renewed (Some a) b key = not (is_some (row a 0 key)) || list_any (is_read_anew a b key) (body_at a 0)
+is_renewed (Some a) b key = not (is_some (row a 0 key)) || list_any (is_touched_at a b key) (body_at a 0)
 
 -- the template of what was settled only says texts and shows fields
 abbrev pub IsSimple : Option Content → Type 0

@@ -11,7 +11,7 @@ use Rattle.dup_model.specs.Pages.{live}
 use Rattle.dup_model.specs.Show.{show}
 use Rattle.dup_model.specs.Tables.{TablesRise}
 use Rattle.dup_transcript.specs.FirstForm.{is_first_form}
-use Rattle.dup_transcript.specs.Sessions.{whole_site}
+use Rattle.dup_model.specs.Pages.{page_looks}
 
 -- the look of a page that embeds nothing and has no links
 abbrev pub plain_look : Obj → Word → Look
@@ -34,7 +34,7 @@ row_page site c key = (row_path site key, plain_look (row_object key) (show c (r
 
 -- what a content of such a site has: a page for each row, which embeds nothing and links to nothing
 pub record HasRowPages (site : Parts) (c : Content) : Type 0 where
-  pub pages : whole_site c ≡ map (row_page site c) (keys c 0)
+  pub pages : page_looks c ≡ map (row_page site c) (keys c 0)
   pub objects : live c ≡ map row_object (keys c 0)
 
 abbrev pub RowsHavePages : Type 0

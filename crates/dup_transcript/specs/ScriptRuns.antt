@@ -13,7 +13,7 @@ use Rattle.dup_transcript.specs.declared.task.Task.TheVariants.{Play}
 use Rattle.dup_transcript.specs.Commands.{Command}
 use Rattle.dup_transcript.specs.Inputs.{script, site_is_read, site_lines, site_text}
 use Rattle.dup_transcript.specs.MachinePlays.{StandsFor, limits_for}
-use Rattle.dup_transcript.specs.Transcript.{Grammars, IsTranscript, commands, site_for, site_ok, too_long}
+use Rattle.dup_transcript.specs.Transcript.{GivesGoodSites, Grammars, IsTranscript, commands, site_for, site_ok, too_long}
 
 -- behind a settle nothing is pending
 abbrev pub LeavesNothing : Parts → World → Command → Type 0
@@ -47,5 +47,5 @@ HasRun g input out = (site : Parts) → site_is_read input ≡ true → site_for
 
 -- so it is with each transcript of `play`
 abbrev pub TranscriptsAreRuns : Type 0
-TranscriptsAreRuns = (g : Grammars) (input : Reading) (status : ℕ) (out : Word) →
+TranscriptsAreRuns = (g : Grammars) → GivesGoodSites g → (input : Reading) (status : ℕ) (out : Word) →
     IsTranscript g Play input status out → HasRun g input out

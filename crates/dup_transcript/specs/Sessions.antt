@@ -11,7 +11,7 @@ use Rattle.dup_model.specs.Content.{Content}
 use Rattle.dup_model.specs.Commits.{Commit, Refusal}
 use Rattle.dup_model.specs.Versions.{content, target_content}
 use Rattle.dup_model.specs.Looks.{look}
-use Rattle.dup_model.specs.Pages.{pages}
+use Rattle.dup_model.specs.Pages.{page_looks, pages}
 use Rattle.dup_model.specs.Needs.{same_look}
 use Rattle.dup_model.specs.Editions.{Page, Edition}
 use Rattle.dup_model.specs.Journal.{refused_behind, with_commit}
@@ -38,10 +38,6 @@ pub record Session : Type 0 where
 abbrev pub first_session : Session
 first_session = record { commits = []; target = None; number = 0; edition = fin.empty; nodes = [] }
 
--- the whole site at a content, in path order: each page's path and look
-abbrev pub whole_site : Content → List (Path × Look)
-whole_site c = map (λ p. (p.0, look c p.1)) (pages c)
-
 -- a page is as the edition has it
 abbrev pub shows : Option Page → Look → Bool
 shows None look = false
@@ -67,7 +63,7 @@ with_pages version site p = fold (with_page version) p site
 
 abbrev pub settled_edition : Parts → Session → Published
 settled_edition site s =
-    with_pages (length s.commits) (whole_site (content site s.commits)) (record {
+    with_pages (length s.commits) (page_looks (content site s.commits)) (record {
       number = s.number;
       edition = s.edition;
     })
@@ -118,24 +114,24 @@ get_text s node pass path =
 
 -- the answer to the command in the line of this number
 abbrev pub play_answer : Parts → Session → ℕ → Command → Word
-play_answer site s number (command.Commit commit) = commit_text s (refused_behind site s.commits commit)
-play_answer site s number command.Settle = settle_text site s
-play_answer site s number (command.Node node capacity mode) = node_text s node
-play_answer site s number (command.Get node pass path) = get_text s node pass path
-play_answer site s number command.Blank = []
-play_answer site s number command.NotBuilt = not_built_text number
+play_answer site s at_line (command.Commit commit) = commit_text s (refused_behind site s.commits commit)
+play_answer site s at_line command.Settle = settle_text site s
+play_answer site s at_line (command.Node node capacity mode) = node_text s node
+play_answer site s at_line (command.Get node pass path) = get_text s node pass path
+play_answer site s at_line command.Blank = []
+play_answer site s at_line command.NotBuilt = not_built_text at_line
 
 -- what is written for commands, behind a session and so many lines, where this is written last
 abbrev pub PlaysCommands : Parts → Session → ℕ → List Command → Word → Word → Type 0
-PlaysCommands site s number [] last out = out ≡ last
-PlaysCommands site s number (command ∷ rest) last out =
-    (more : Word) × (out ≡ play_answer site s (number + 1) command ++ more)
-    × PlaysCommands site (after_command site s command) (number + 1) rest last more
+PlaysCommands site s at_line [] last out = out ≡ last
+PlaysCommands site s at_line (command ∷ rest) last out =
+    (more : Word) × (out ≡ play_answer site s (at_line + 1) command ++ more)
+    × PlaysCommands site (after_command site s command) (at_line + 1) rest last more
 
 -- what is written for a script, behind a session and so many lines: the answers to its commands, and what is
 -- too long
 abbrev pub Writes : (Word → Command) → Parts → Session → ℕ → Reading → Word → Type 0
-Writes feed site s number input out = PlaysCommands site s number (commands feed input) (too_long input) out
+Writes feed site s at_line input out = PlaysCommands site s at_line (commands feed input) (too_long input) out
 
 -- a commit is one put, as each that is built
 abbrev pub IsPutting : Command → Type 0

@@ -4,6 +4,7 @@ use Rattle.std.specs.Fmt.{decimal}
 use Rattle.dup_names.specs.Lines.{Reading, Whole, Next, LongLine, LongInput, line}
 use Rattle.dup_names.specs.Words.{Word}
 use Rattle.dup_template.specs.declared.refusal.SiteTextRefusal.{SiteTextRefusal}
+use Rattle.dup_template.specs.Good.{IsGood}
 use Rattle.dup_template.specs.declared.site.Parts.{Parts}
 use Rattle.dup_transcript.specs.BadSites.{or_cause}
 use Rattle.dup_transcript.specs.FirstForm.{or_not_built}
@@ -23,6 +24,10 @@ pub record Grammars : Type 0 where
   pub site : Word → Result Parts SiteTextRefusal
   pub canonical : Parts → Word
   pub feed : Word → Command
+
+-- the sites that texts give are good
+abbrev pub GivesGoodSites : Grammars → Type 0
+GivesGoodSites g = (text : Word) (site : Parts) → g.site text ≡ Ok site → IsGood site
 
 abbrev pub site_ok : Word
 site_ok = line (codes "site ok")
@@ -114,9 +119,9 @@ IsTranscript g task input status out = DoesRead g task (site_is_read input) inpu
 
 -- each input has a transcript, and only one
 abbrev pub TranscriptsExist : Type 0
-TranscriptsExist = (g : Grammars) (task : Task) (input : Reading) → (status : ℕ)
+TranscriptsExist = (g : Grammars) → GivesGoodSites g → (task : Task) (input : Reading) → (status : ℕ)
     × ((out : Word) × IsTranscript g task input status out)
 
 abbrev pub TranscriptsAreOne : Type 0
-TranscriptsAreOne = (g : Grammars) (task : Task) (input : Reading) (s t : ℕ) (out other : Word) →
+TranscriptsAreOne = (g : Grammars) → GivesGoodSites g → (task : Task) (input : Reading) (s t : ℕ) (out other : Word) →
     IsTranscript g task input s out → IsTranscript g task input t other → (s ≡ t) × (out ≡ other)

@@ -7,6 +7,7 @@ ghost use Rattle.dup_transcript.specs.MachinePlays.{
   SettlesLeaveNothing,
   StartsReady,
 };
+ghost use Rattle.dup_transcript.specs.OnlyTable.{OnlyTheTable};
 ghost use Rattle.dup_transcript.specs.Numbers.{NumbersAreDecimal};
 ghost use Rattle.dup_transcript.specs.RowCounts.{RowsAreCounted};
 ghost use Rattle.dup_transcript.specs.RowPages.{RowsHavePages};
@@ -26,9 +27,10 @@ pub fn numbers_law()
     ensures { NumbersAreDecimal }
 {}
 
-/// What each form of line commands.
+/// What each form of line commands, and that every other line isn't built.
 pub fn commands_law()
-    ensures { EachIsRead }
+    ensures each { EachIsRead }
+    ensures others { OnlyTheTable }
 {}
 
 /// Each input has one transcript.

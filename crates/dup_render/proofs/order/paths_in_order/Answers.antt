@@ -3,7 +3,7 @@ use Rattle.std.specs.List.Sorted.{IsSorted}
 use Rattle.std.proofs.lemmas.List.Filters.{dedup_is}
 use Rattle.dup_names.specs.Order.{text_cmp}
 use Rattle.std.specs.Cmp.Lexicographic.{nat_list_cmp_total}
-use Rattle.dup_render.proofs.Ordered.{path_cmp_is, path_tied, same_path_decides}
+use Rattle.dup_render.proofs.DerivedOrders.{path_cmp_is, path_tied, same_path_decides}
 use Rattle.dup_render.proofs.Sorting.{deduped_in_order}
 use Rattle.dup_render.proofs.order.paths_in_order.Goals as goal
 

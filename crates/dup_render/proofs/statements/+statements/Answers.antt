@@ -2,7 +2,7 @@ use Rattle.std.proofs.Common.{sym, ◌∙◌}
 use Rattle.dup_model.specs.Here.{row_at}
 use Rattle.dup_model.specs.Marks.{body_marks}
 use Rattle.dup_model.proofs.Equations.{marks-Each}
-use Rattle.dup_render.proofs.Turns.{each_turns}
+use Rattle.dup_render.proofs.EachTurns.{each_turns}
 use Rattle.dup_render.proofs.statements.+statements.Goals as goal
 
 pub put_statement-returns-in-Some : goal.put_statement-returns-in-Some

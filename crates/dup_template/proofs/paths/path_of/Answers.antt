@@ -5,7 +5,7 @@ use Rattle.dup_names.specs.declared.object.Obj.{Obj}
 use Rattle.dup_template.specs.declared.site.Parts.{Parts}
 use Rattle.dup_template.specs.Good.{site_fault}
 use Rattle.dup_template.specs.Paths.{path_at, obj_at, KeyOk}
-use Rattle.dup_template.proofs.Back.{obj_of_path}
+use Rattle.dup_template.proofs.ObjectOfPath.{obj_of_path}
 use Rattle.dup_template.proofs.paths.path_of.Goals as goal
 
 leads-back : (site : Parts) → site_fault site ≡ None → (o : Obj) → KeyOk o.key → (path : Option Word) → path ≡ path_at site o → IfSome path (λ p. obj_at site p ≡ Some o)

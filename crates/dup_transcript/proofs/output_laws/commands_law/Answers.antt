@@ -1,5 +1,9 @@
 use Rattle.dup_transcript.proofs.CommandTable.{each_is_read}
+use Rattle.dup_transcript.proofs.OnlyTable.{only_the_table}
 use Rattle.dup_transcript.proofs.output_laws.commands_law.Goals as goal
 
-pub returns : goal.returns
-returns c = each_is_read
+pub returns-clause-each : goal.returns-clause-each
+returns-clause-each c = each_is_read
+
+pub returns-clause-others : goal.returns-clause-others
+returns-clause-others c = only_the_table

@@ -3,7 +3,7 @@ use Rattle.std.specs.Prelude.{Some}
 use Rattle.std.specs.List.{slice_get}
 use Rattle.std.proofs.lemmas.Option.{slice_get_read}
 use Rattle.dup_template.specs.declared.site.KindPart.{KindPart}
-use Rattle.dup_template.proofs.Rules.{fields_within}
+use Rattle.dup_template.proofs.GoodRules.{fields_within}
 use Rattle.dup_template.proofs.site.Site.fields.Goals as goal
 
 pub returns-in-Some-clause-within : goal.returns-in-Some-clause-within

@@ -1,4 +1,4 @@
-use Rattle.dup_template.proofs.Facts.{kinds-within}
+use Rattle.dup_template.proofs.GoodParts.{kinds-within}
 use Rattle.dup_template.proofs.site.Site.kinds.Goals as goal
 
 pub returns-clause-within : goal.returns-clause-within

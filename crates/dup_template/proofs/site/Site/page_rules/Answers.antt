@@ -1,4 +1,4 @@
-use Rattle.dup_template.proofs.Facts.{pages-within}
+use Rattle.dup_template.proofs.GoodParts.{pages-within}
 use Rattle.dup_template.proofs.site.Site.page_rules.Goals as goal
 
 pub returns-clause-within : goal.returns-clause-within

@@ -1,4 +1,4 @@
-use Rattle.dup_template.proofs.Facts.{templates-within}
+use Rattle.dup_template.proofs.GoodParts.{templates-within}
 use Rattle.dup_template.proofs.site.Site.templates.Goals as goal
 
 pub returns-clause-within : goal.returns-clause-within

@@ -3,9 +3,11 @@ ghost use Rattle.std.specs.Prelude.{◌<◌};
 
 use dup_io::{MemorySink, MemorySource};
 use dup_main::desk_main;
+use dup_samples::RESULTS_SITE;
 use std::alloc::{AllocError, Global};
 use std::marker::Sync;
 use std::process::Abort;
+use std::str;
 use std::test::Fail;
 use std::thread::Threads;
 
@@ -21,25 +23,7 @@ family /event event_page
 ";
 
 /// A site of two kinds, whose page of an event lists its results by their places.
-pub(crate) const RESULTS: &[u8] = b"kind event title
-kind result event who place
-template line of result
-= <li>
-field place
-= :
-field who
-= </li>
-end
-template event_page of event
-= <h1>
-field title
-= </h1>
-each result by event order place
-embed line
-end
-end
-family /event event_page
-";
+pub(crate) const RESULTS: &[u8] = RESULTS_SITE.as_bytes();
 
 fn words_of(alloc: Global, texts: &[&str]) -> Result<Vec<String>, AllocError> {
     let mut words = Vec::new(alloc);
@@ -119,7 +103,14 @@ pub(crate) fn run(
     Ok((status, sink.written().to_vec(alloc)?))
 }
 
-/// A call ends with this status and has written these bytes.
+// What a failing row is told by: the end of its input, as a text.
+fn end_of(input: &[u8]) -> &str {
+    let from = input.len().saturating_sub(240);
+    str::from_utf8(&input[from..]).unwrap_or("bytes that are no text")
+}
+
+/// A call ends with this status and has written these bytes. Where it doesn't, the pieces and the end of
+/// the input are told.
 pub(crate) fn ends(
     rt: &(impl Abort + Alloc<A = Global> + Threads + Sync),
     setting: Setting<'_>,
@@ -128,8 +119,10 @@ pub(crate) fn ends(
     output: &[u8],
 ) -> Result<(), Fail> {
     let (got, written) = run(rt, setting, input)?;
-    assert_eq!(rt; written.as_slice(), output);
-    assert_eq!(rt; got, status);
+    let piece = setting.piece;
+    let row = end_of(input);
+    assert_eq!(rt; written.as_slice(), output, "in pieces of {piece}, behind {row}");
+    assert_eq!(rt; got, status, "in pieces of {piece}, behind {row}");
     Ok(())
 }
 

@@ -14,7 +14,7 @@ use Rattle.dup_template.specs.declared.statement.Statement.TheVariants as s
 use Rattle.dup_template.specs.declared.statement.Statement.TheVariants.{rolls-Field, rolls-If, rolls-Embed}
 use Rattle.dup_template.specs.declared.statement.Statement.TheFolds.{fold-roll-Statement}
 use Rattle.dup_template.specs.Good.{has, at_most, first_from, template_names, template_fault, body_fault, body_size, statement_fault, field_fault, embed_fault, to_fault, find_template, site_fault, kind_fault, fields_fault, new_name, kind_names}
-use Rattle.dup_template.proofs.Facts.{or-none, unless-none, at_most-none, good-parts}
+use Rattle.dup_template.proofs.GoodParts.{or-none, unless-none, at_most-none, good-parts}
 
 -- the rules hold of each template's body, with the templates before it
 rules-from : (site : Parts) (ts earlier : List TemplatePart) → first_from (template_fault site) earlier ts ≡ None →

@@ -19,8 +19,8 @@ use Rattle.dup_template.specs.declared.site.PageRule.TheVariants.{Fixed, Family}
 use Rattle.dup_template.specs.Good.{is_slash_key, has, shown_by, behind, meet, is_in_family, template_names, first_from, head_fault, page_fault, site_fault, kind_known, declared, shows_fault, find_template, unless, new_name, at_most}
 use Rattle.dup_template.specs.declared.refusal.What.TheVariants.{Templates, Pages}
 use Rattle.dup_template.specs.Paths.{rule_of, path_by, path_in, path_at, keyed, shown_at, first_shown, obj_at, KeyOk}
-use Rattle.dup_template.proofs.Facts.{or-none, unless-none, not-not, Good, good-parts}
-use Rattle.dup_template.proofs.Joined.{slash-no}
+use Rattle.dup_template.proofs.GoodParts.{or-none, unless-none, not-not, Good, good-parts}
+use Rattle.dup_template.proofs.JoinedPath.{slash-no}
 
 same-refl : (w : Word) → same w w ≡ true
 same-refl w = (bytes_eq-Decides w w).1 refl

@@ -2,6 +2,7 @@
 use crate::plays::{
     RESULTS, SITE, Setting, checking, each_has_cause, ends, in_pieces, joined, repeated,
 };
+use dup_samples::EVENTS_SITE;
 use std::marker::Sync;
 use std::process::Abort;
 use std::test::Fail;
@@ -115,8 +116,7 @@ fn what_stands_behind_the_site_text_is_not_looked_at(rt: HostRuntime) -> Result<
         ends(&rt, checking(64), &bare, 0, b"")?;
     }
     ends(&rt, checking(64), b"---", 0, b"")?;
-    let site = SITE.strip_suffix(b"---\n").unwrap_or(b"");
-    ends(&rt, checking(64), SITE, 0, site)
+    ends(&rt, checking(64), SITE, 0, EVENTS_SITE.as_bytes())
 }
 
 #[test]
@@ -190,8 +190,7 @@ fn each_read_of_a_check_that_fails_is_told(rt: HostRuntime) -> Result<(), Fail> 
     ends(&rt, failing(1, &[past], &[]), RESULTS, 0, RESULTS)?;
     ends(&rt, failing(4096, &[1], &[]), RESULTS, 3, b"read fault\n")?;
     ends(&rt, failing(4096, &[2], &[]), RESULTS, 3, b"read fault\n")?;
-    let site = SITE.strip_suffix(b"---\n").unwrap_or(b"");
-    ends(&rt, failing(4096, &[2], &[]), SITE, 0, site)
+    ends(&rt, failing(4096, &[2], &[]), SITE, 0, EVENTS_SITE.as_bytes())
 }
 
 #[test]

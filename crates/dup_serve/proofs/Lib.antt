@@ -1,0 +1,3 @@
+pub mod NodeTexts
+pub mod Tables
+pub mod TwoTexts

@@ -1,0 +1,31 @@
+-- The table of commands the other way round: every other line isn't built.
+use Rattle.std.specs.Prelude.{◌≡◌, ◌⊎◌, ℕ, ◌<◌, ◌^◌, true, false, [], ◌∷◌, ◌++◌, codes}
+use Rattle.std.specs.Fmt.{decimal}
+use Rattle.std.specs.List.{list_all}
+use Rattle.dup_names.specs.Grammar.{is_path}
+use Rattle.dup_names.specs.LineWords.{is_space, line_words, trimmed}
+use Rattle.dup_names.specs.Words.{Word}
+use Rattle.dup_model.specs.declared.mode.Mode.{Mode}
+use Rattle.dup_transcript.specs.declared.command.Command.TheVariants as command
+use Rattle.dup_transcript.specs.CommandTable.{mode_word}
+use Rattle.dup_transcript.specs.Commands.{Command, is_capacity, is_node, line_command}
+
+-- a line of the table and what it commands, whatever spaces stand round its words; `#` is 35. What a feed
+-- message commands is handed in
+pub data IsInTable (feed : Word → Command) (text : Word) : Command → Type 0 where
+  blank : trimmed text ≡ [] → IsInTable feed text command.Blank
+  comment : (rest : Word) → trimmed text ≡ 35 ∷ rest → IsInTable feed text command.Blank
+  commit : (message : Word) → trimmed text ≡ codes "commit " ++ message → list_all is_space message ≡ false →
+      IsInTable feed text (feed message)
+  settle : line_words text ≡ codes "settle" ∷ [] → IsInTable feed text command.Settle
+  node : (number capacity : ℕ) (mode : Mode) → is_node number ≡ true → is_capacity capacity ≡ true →
+      line_words text ≡ codes "node" ∷ (decimal number ∷ (decimal capacity ∷ (mode_word mode ∷ []))) →
+      IsInTable feed text (command.Node number capacity mode)
+  get : (number pass : ℕ) (path : Word) → is_node number ≡ true → pass < 2 ^ 64 → is_path path ≡ true →
+      line_words text ≡ codes "get" ∷ (decimal number ∷ (decimal pass ∷ (path ∷ []))) →
+      IsInTable feed text (command.Get number pass path)
+
+-- each line is one of the table, or isn't built
+abbrev pub OnlyTheTable : Type 0
+OnlyTheTable = (feed : Word → Command) (text : Word) →
+    IsInTable feed text (line_command feed text) ⊎ (line_command feed text ≡ command.NotBuilt)
