@@ -25,7 +25,8 @@ use std::sync::Arc;
 type Table = Listed<Entry>;
 
 /// A site, and for each kind its rows, which are shared with the contents that this one was made from.
-/// The rows of a kind stand in the order of their keys, so a row is found by a binary search.
+/// The rows of a kind stand in the order of their keys, so a row is found by a binary search, and each
+/// has a text for each field of its kind.
 #[derive(Drop)]
 pub struct Content {
     site: Arc<Site, Global>,
