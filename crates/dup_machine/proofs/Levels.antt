@@ -1,33 +1,22 @@
 -- Which object is handed next, and which are joined next.
-use Rattle.std.proofs.Common.{◌≡◌, ℕ, zero, suc, ◌<◌, inl, inr, Bool, true, false, not, cond, ◌||◌, ◌&&◌, List, [], ◌∷◌, ◌++◌, map, refl, sym, ap, ◌∙◌, arith}
+use Rattle.std.proofs.Common.{◌≡◌, ℕ, zero, suc, ◌<◌, inl, inr, Bool, true, false, not, cond, ◌||◌, ◌&&◌, List, [], ◌∷◌, refl, sym, ap, ◌∙◌, arith}
 use Rattle.std.specs.Prelude.{Option, Some, None}
-use Rattle.std.specs.List.{list_any, list_all, find, flat_map}
+use Rattle.std.specs.List.{list_all, find}
 use Rattle.std.specs.Option.{option_or}
 use Rattle.std.specs.Ordering.{is_lt}
 use Rattle.std.proofs.lemmas.Option.{none-some, same_Some}
-use Rattle.std.proofs.lemmas.Bool.{true≢false, cases_Bool, or_cases, or_left, and_parts, and_from, not-true}
-use Rattle.std.proofs.lemmas.Bool.Decides.{eqb_tells}
+use Rattle.std.proofs.lemmas.Bool.{true≢false, cases_Bool, or_left, and_parts, and_from, not-true}
 use Rattle.dup_names.specs.Order.{obj_cmp}
 use Rattle.dup_names.specs.declared.object.Obj.{Obj}
-use Rattle.dup_names.specs.declared.object.Item.{Item}
-use Rattle.dup_names.specs.declared.value.Value.{Value}
-use Rattle.dup_names.specs.declared.value.Value.TheVariants as seen
-use Rattle.dup_names.specs.Words.{Path, Word, in_order, same}
-use Rattle.dup_model.specs.Content.{Content, value}
-use Rattle.dup_model.specs.Skeletons.{embeds, reads}
-use Rattle.dup_model.specs.Looks.{down, reached_from, uses}
-use Rattle.dup_model.specs.Pages.{pages, live}
-use Rattle.dup_model.specs.Touched.{same_obj, is_in, same_value}
+use Rattle.dup_model.specs.Content.{Content}
+use Rattle.dup_model.specs.Skeletons.{embeds}
+use Rattle.dup_model.specs.Touched.{same_obj, is_in}
 use Rattle.dup_machine.specs.World.{Work}
 use Rattle.dup_model.specs.Found.{found, waiting}
-use Rattle.dup_model.specs.Expansions.{notes, stale}
 use Rattle.dup_machine.specs.Works.{unjoined, level, next_of}
 use Rattle.dup_model.specs.Embeddings.{EmbedsEarlier}
-use Rattle.std.specs.Cmp.Lexicographic.{pointwise}
-use Rattle.std.proofs.lemmas.Slice.Eq.{bytes_eq-Decides}
 use Rattle.dup_model.proofs.Reached.{or_right}
-use Rattle.dup_model.proofs.Ordering.{any_flat}
-use Rattle.dup_model.proofs.Earlier.{obj_itself, in_ordered, always, down_at, down_past, down_further, in_flat, of_flat, embeds_earlier}
+use Rattle.dup_model.proofs.Earlier.{obj_itself, embeds_earlier}
 use Rattle.dup_model.proofs.Objects.{in_filter}
 use Rattle.dup_model.proofs.Finds.{done_unless_waiting, found_further}
 

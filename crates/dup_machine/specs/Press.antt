@@ -6,19 +6,15 @@ use Rattle.dup_names.specs.declared.object.Item.{Item}
 use Rattle.dup_names.specs.declared.object.Obj.{Obj}
 use Rattle.dup_names.specs.declared.value.Value.{Value}
 use Rattle.dup_template.specs.declared.site.Parts.{Parts}
-use Rattle.dup_model.specs.Bundles.{bundle}
 use Rattle.dup_model.specs.Commits.{Commit, Refusal}
 use Rattle.dup_model.specs.Content.{Content}
-use Rattle.dup_model.specs.Editions.{edition}
-use Rattle.dup_model.specs.Expansions.{notes, stale}
-use Rattle.dup_model.specs.Found.{waiting}
+use Rattle.dup_model.specs.Expansions.{notes}
 use Rattle.dup_model.specs.Pages.{Target}
 use Rattle.dup_model.specs.Versions.{content, version}
 use Rattle.dup_machine.specs.Builds.{finished_in, handed_by, joined_in, kept_by, opened_at}
-use Rattle.dup_machine.specs.Presses.{Press, begin_step, begins, build_at, build_with, commit_step, finish_step, finishes, hand_step, hands, join_step, joins, publish_by, publish_step, put_step, puts, target_by, version_of}
+use Rattle.dup_machine.specs.Presses.{Press, begin_step, begins, build_at, build_with, commit_step, finish_step, finishes, hand_step, hands, join_step, joins, publish_by, publish_step, put_step, puts, target_by}
 use Rattle.dup_machine.specs.World.{Slot, Told, Work, World, told}
 use Rattle.dup_machine.specs.World.Told.{Handed, NoneWaits, SlotBusy, SlotEmpty}
-use Rattle.dup_machine.specs.Works.{next_of}
 
 -- the press of a world
 abbrev pub press_of : World → Press
