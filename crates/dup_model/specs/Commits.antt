@@ -1,4 +1,5 @@
 -- Commits: what they do to a content, and why one is refused.
+use Rattle.dup_names.specs.declared.limits.TheConstants.{MAX_CHANGES}
 use Rattle.std.specs.Prelude.{ℕ, ◌+◌, ◌≤◌, Bool, true, ◌&&◌, not, List, [], ◌∷◌, map, Option, Some, None, is_some, if◌then◌else◌, nat_lt, length, IsTrue, slice_set}
 use Rattle.std.specs.List.{filter, list_all}
 use Rattle.std.specs.Option.{unwrap_or, option_or}
@@ -18,7 +19,7 @@ Commit = List Edit
 
 -- a commit has 1 to 256 changes
 abbrev pub HasCommitLength : Commit → Type 0
-HasCommitLength commit = (1 ≤ length commit) × (length commit ≤ 256)
+HasCommitLength commit = (1 ≤ length commit) × (length commit ≤ MAX_CHANGES)
 
 -- the names of a put rise strictly
 abbrev pub rise : List (Word × Word) → Bool

@@ -1,4 +1,5 @@
 -- The limits of a journal and of a kind's rows, why a commit is refused, and what joins the journal.
+use Rattle.dup_names.specs.declared.limits.TheConstants.{MAX_COMMITS, MAX_JOURNAL_BYTES, MAX_ROWS}
 use Rattle.std.specs.Prelude.{ℕ, ◌+◌, ◌||◌, not, nat_lt, List, [], ◌∷◌, ◌++◌, length, Option, Some, None, if◌then◌else◌}
 use Rattle.std.specs.List.{sum_by}
 use Rattle.std.specs.Option.{option_or}
@@ -16,7 +17,7 @@ pub record Limits : Type 0 where
 
 -- the limits where none are named
 abbrev pub usual_limits : Limits
-usual_limits = record { rows = 4096; commits = 1048576; bytes = 1073741824 }
+usual_limits = record { rows = MAX_ROWS; commits = MAX_COMMITS; bytes = MAX_JOURNAL_BYTES }
 
 -- the bytes of a change: of its kind, key, field names and texts
 abbrev pub edit_bytes : Edit → ℕ

@@ -4,7 +4,6 @@
 
 mod count;
 mod key;
-mod laws;
 mod limits;
 mod line_words;
 mod name;
@@ -18,9 +17,9 @@ mod value;
 pub use count::{Meter, Pass};
 pub use key::{Key, KeyList};
 pub use limits::{
-    MAX_CHANGES, MAX_FIELDS, MAX_INPUT_BYTES, MAX_KEY_BYTES, MAX_KINDS, MAX_LINE_BYTES,
-    MAX_NAME_BYTES, MAX_NESTING, MAX_PAGE_RULES, MAX_PATH_BYTES, MAX_PREFIX_BYTES, MAX_STATEMENTS,
-    MAX_TEMPLATES, MAX_TEXT_BYTES,
+    MAX_CHANGES, MAX_COMMITS, MAX_FIELDS, MAX_INPUT_BYTES, MAX_JOURNAL_BYTES, MAX_KEY_BYTES,
+    MAX_KINDS, MAX_LINE_BYTES, MAX_NAME_BYTES, MAX_NESTING, MAX_PAGE_RULES, MAX_PATH_BYTES,
+    MAX_PREFIX_BYTES, MAX_ROWS, MAX_STATEMENTS, MAX_TEMPLATES, MAX_TEXT_BYTES,
 };
 pub use line_words::{are_spaces, is_word, trimmed, words_of};
 pub use name::{Name, place_of};

@@ -36,6 +36,15 @@ pub const MAX_NESTING: usize = 8;
 /// The changes of a commit.
 pub const MAX_CHANGES: usize = 256;
 
+/// The rows of a kind.
+pub const MAX_ROWS: u32 = 4096;
+
+/// The commits of a journal.
+pub const MAX_COMMITS: u64 = 1_048_576;
+
+/// The bytes of a journal's commits.
+pub const MAX_JOURNAL_BYTES: u64 = 1_073_741_824;
+
 /// The bytes of a line of an input, without what ends it.
 pub const MAX_LINE_BYTES: usize = 262_144;
 

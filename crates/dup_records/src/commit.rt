@@ -4,7 +4,7 @@ ghost use Rattle.dup_model.specs.Commits.{HasCommitLength};
 
 use crate::change::Change;
 use dup_lists::Listed;
-use dup_names::{MAX_CHANGES, NoMemory};
+use dup_names::{MAX_CHANGES, MAX_COMMITS, MAX_JOURNAL_BYTES, MAX_ROWS, NoMemory};
 use std::alloc::Global;
 use std::marker::Model;
 
@@ -72,15 +72,17 @@ pub struct Limits {
 }
 
 impl Default for Limits {
-    ghost is_default = { λ limits. (limits.rows ≡ 4096) × (limits.commits ≡ 1048576)
-        × (limits.bytes ≡ 1073741824) };
+    ghost use Rattle.dup_names.specs.declared.limits.TheConstants.{MAX_COMMITS, MAX_JOURNAL_BYTES, MAX_ROWS};
+
+    ghost is_default = { λ limits. (limits.rows ≡ MAX_ROWS) × (limits.commits ≡ MAX_COMMITS)
+        × (limits.bytes ≡ MAX_JOURNAL_BYTES) };
 
     /// 4,096 rows, 1,048,576 commits and 2^30 bytes.
     fn default() -> Limits {
         Limits {
-            rows: 4096,
-            commits: 1_048_576,
-            bytes: 1_073_741_824,
+            rows: MAX_ROWS,
+            commits: MAX_COMMITS,
+            bytes: MAX_JOURNAL_BYTES,
         }
     }
 }

@@ -190,8 +190,3 @@ is_spelled End = true
 
 abbrev pub are_spelled : List SiteLine → Type 0
 are_spelled ls = list_all is_spelled ls ≡ true
-
--- a mark and a name, where there is one, each behind a space
-abbrev pub marked_text : List ℕ → Option Word → List ℕ
-marked_text mark None = []
-marked_text mark (Some name) = 32 ∷ (mark ++ 32 ∷ name)

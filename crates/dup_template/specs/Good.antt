@@ -268,15 +268,6 @@ site_fault site =
     (option_or (pages_fault site.templates site.pages)
     (bodies_fault site)))
 
-abbrev pub no_fault : Fault
-no_fault = None
-
 -- parts that break no rule
 abbrev pub IsGood : Parts → Type 0
 IsGood site = site_fault site ≡ None
-
--- what a check answers: a site where no rule is broken, and else the first one, unless memory runs out
-abbrev pub Tells : {Y : Type 0} → Result Y SiteRefusal → Fault → Type 0
-Tells (Ok site) fault = fault ≡ None
-Tells (Err NoMemory) fault = Unit {0}
-Tells (Err e) fault = fault ≡ Some e

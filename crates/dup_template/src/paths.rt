@@ -87,6 +87,8 @@ fn find_path(site: &Parts, obj: &Obj) -> Option<Path>
     }
 }
 
+// That a key is in its grammar is a fact of its type, which a proof learns by a call on the key: the path
+// that is made of it is told back as this very object. It costs nothing that grows.
 fn key_known(key: &Option<Key>)
     ensures { paths.KeyOk key.now }
 {

@@ -1,5 +1,5 @@
 -- Each line is one of the table, or isn't built.
-use Rattle.std.proofs.Common.{◌≡◌, ◌⊎◌, inl, inr, ℕ, Bool, true, false, not, ◌&&◌, List, [], ◌∷◌, ◌++◌, refl, sym, ap, ◌∙◌}
+use Rattle.std.proofs.Common.{◌≡◌, ◌⊎◌, inl, inr, ℕ, Bool, true, false, ◌&&◌, List, [], ◌∷◌, ◌++◌, refl, sym, ap, ◌∙◌}
 use Rattle.std.specs.Prelude.{Option, Some, None, codes, drop, if◌then◌else◌, length, nat_eq, take}
 use Rattle.std.specs.Fmt.{decimal}
 use Rattle.std.proofs.lemmas.List.{take-append-drop}
@@ -15,7 +15,7 @@ use Rattle.dup_model.specs.declared.mode.Mode.{Mode}
 use Rattle.dup_model.specs.declared.mode.Mode.TheVariants.{Invalidate, Update}
 use Rattle.dup_transcript.specs.declared.command.Command.TheVariants as command
 use Rattle.dup_transcript.specs.CommandTable.{mode_word}
-use Rattle.dup_transcript.specs.Commands.{Command, by_message, by_start, by_words, get_command, if_more, is_capacity, is_node, line_command, message_of, mode_of, node_command, one_word, four_words}
+use Rattle.dup_transcript.specs.Commands.{Command, by_message, by_start, by_words, get_command, if_more, is_capacity, is_node, message_of, mode_of, node_command, one_word, four_words}
 use Rattle.dup_transcript.specs.Numbers.{number_of}
 use Rattle.dup_transcript.specs.OnlyTable.{IsInTable, OnlyTheTable}
 use Rattle.dup_transcript.specs.OnlyTable.IsInTable.{blank, comment, commit, settle, node, get}

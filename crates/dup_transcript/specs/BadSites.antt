@@ -1,5 +1,5 @@
 -- What is written of a text that is no good site's.
-use Rattle.std.specs.Prelude.{[], ◌++◌, codes, if◌then◌else◌, Result, Ok, Err}
+use Rattle.std.specs.Prelude.{[], ◌++◌, codes, Result, Ok, Err}
 use Rattle.std.specs.Fmt.{decimal}
 use Rattle.dup_names.specs.Lines.{line}
 use Rattle.dup_names.specs.Words.{Word}

@@ -1,17 +1,16 @@
 -- What a script makes and is answered without the events of the machine, where the site is of the first form
 -- and each commit is one put: the law `sessions_law`.
-use Rattle.std.specs.Prelude.{◌≡◌, ◌↔◌, ℕ, ◌+◌, ◌-◌, Bool, true, false, not, List, [], ◌∷◌, ◌++◌, map, Option, Some, None, length, nat_le, nat_eq, if◌then◌else◌}
+use Rattle.std.specs.Prelude.{◌≡◌, ◌↔◌, ℕ, ◌+◌, ◌-◌, Bool, true, false, not, List, [], ◌∷◌, ◌++◌, Option, Some, None, length, nat_le, nat_eq, if◌then◌else◌}
 use Rattle.std.specs.List.{AllByRecursion, fold, list_any}
 use Rattle.std.specs.FinMap as fin
 use Rattle.dup_names.specs.Lines.{Reading}
 use Rattle.dup_names.specs.Words.{Word, Path}
 use Rattle.dup_names.specs.declared.value.Look.{Look}
 use Rattle.dup_template.specs.declared.site.Parts.{Parts}
-use Rattle.dup_model.specs.Content.{Content}
 use Rattle.dup_model.specs.Commits.{Commit, Refusal}
 use Rattle.dup_model.specs.Versions.{content, target_content}
 use Rattle.dup_model.specs.Looks.{look}
-use Rattle.dup_model.specs.Pages.{page_looks, pages}
+use Rattle.dup_model.specs.Pages.{page_looks}
 use Rattle.dup_model.specs.Needs.{same_look}
 use Rattle.dup_model.specs.Editions.{Page, Edition}
 use Rattle.dup_model.specs.Journal.{refused_behind, with_commit}
