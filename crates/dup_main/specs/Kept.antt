@@ -1,6 +1,6 @@
 -- What the program keeps of a session.
 use Rattle.std.specs.Prelude.{◌≡◌, ℕ, ◌≤◌, true, Option, Some, None, length, Bool, false, ◌&&◌, bytes_eq}
-use Rattle.dup_model.specs.Touched.{same_obj}
+use Rattle.dup_names.specs.Objects.{same_obj}
 use Rattle.std.specs.Option.{option_map}
 use Rattle.std.specs.FinMap as fin
 use Rattle.std.specs.BTreeMap as tree

@@ -105,6 +105,3 @@ module _ {X : Type 0} where
       (λ is inside. first_least f es (and_parts _ _ sorted).1 p ps is q inside)
       is inside
 
-pub from_T : (b : Bool) → T b → b ≡ true
-from_T true h = refl
-from_T false h = absurd h
