@@ -1,22 +1,20 @@
 -- The list of changed paths: it has just these, and they rise.
-use Rattle.std.proofs.Common.{◌≡◌, ◌↔◌, ℕ, zero, inl, inr, Bool, true, false, not, cond, ◌||◌, List, [], ◌∷◌, ◌++◌, Option, Some, None, map, refl, sym, ap, subst, ◌∙◌}
+use Rattle.std.proofs.Common.{◌≡◌, ℕ, zero, inl, inr, Bool, true, false, not, cond, ◌||◌, List, [], ◌∷◌, ◌++◌, Option, Some, None, map, refl, sym, ap, subst, ◌∙◌}
 use Rattle.std.specs.Option.{is_some, option_map, option_eq}
 use Rattle.std.specs.List.{filter}
 use Rattle.std.specs.declared.cmp.Ordering.{Ordering}
 use Rattle.std.specs.declared.cmp.Ordering.TheVariants.{Less, Equal, Greater}
-use Rattle.std.specs.Ordering.{eq_by_cmp, is_lt, is_eq, ordering_reverse}
+use Rattle.std.specs.Ordering.{eq_by_cmp, is_lt}
 use Rattle.std.specs.Cmp.{Equal-is}
 use Rattle.std.specs.Cmp.Lexicographic.{nat_list_cmp_total}
-use Rattle.std.proofs.lemmas.Bool.{true≢false, cases_Bool, and_parts, and_from, or_cases, or_left}
-use Rattle.std.proofs.lemmas.Option.{none-some, same_Some}
+use Rattle.std.proofs.lemmas.Bool.{true≢false, and_parts, and_from, or_cases}
 use Rattle.std.specs.FinMap as fin
 use Rattle.std.specs.FinMap.Entries.{is_some-find, is_sorted, below_all}
-use Rattle.std.proofs.Math.Dec.{T}
-use Rattle.dup_model.proofs.Reached.{tie_same, tie_itself, has_filter, or_right}
+use Rattle.dup_model.proofs.Reached.{tie_same, tie_itself, has_filter}
 use Rattle.dup_names.specs.Words.{Path}
 use Rattle.dup_names.specs.declared.value.Look.{Look}
 use Rattle.dup_model.specs.Editions.{Page, has, Edition, looks, target_looks}
-use Rattle.dup_model.specs.Needs.{Looks, Paths, same_look, needs, changed}
+use Rattle.dup_model.specs.Needs.{same_look, changed}
 use Rattle.dup_names.specs.Order.{text_cmp}
 use Rattle.dup_model.specs.Pages.{Target}
 use Rattle.dup_model.specs.Bundles.{paths_of, changed_paths}

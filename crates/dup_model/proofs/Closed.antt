@@ -1,6 +1,6 @@
 -- Sets that are closed among the changed paths, and what is reached through changed paths.
 use Rattle.std.proofs.Common.{◌≡◌, false}
-use Rattle.std.specs.Prelude.{IsTrue, ◌↔◌}
+use Rattle.std.specs.Prelude.{IsTrue}
 use Rattle.dup_names.specs.Words.{Path}
 use Rattle.dup_model.specs.Needs.{Looks, Paths, needs, changed, IsClosed, NeededAreChanged}
 use Rattle.dup_model.specs.Finest.{IsFinest, IsLeastOf, IsFinestBundle}

@@ -1,16 +1,9 @@
 -- What follows where templates embed earlier templates alone.
 use Rattle.std.proofs.Common.{◌≡◌, ℕ, zero, suc, ◌<◌, inl, inr, Bool, true, false, cond, List, [], ◌∷◌, ◌++◌, map, refl, sym, ap, subst, ◌∙◌, arith}
-use Rattle.std.specs.Prelude.{Option, Some, None}
 use Rattle.std.specs.List.{flat_map, AllByRecursion, Contains}
-use Rattle.std.specs.Ordering.{nat_cmp, ordering_then}
-use Rattle.std.specs.declared.cmp.Ordering.{Ordering}
-use Rattle.std.specs.declared.cmp.Ordering.TheVariants.{Less, Equal, Greater}
-use Rattle.std.specs.FinMap as fin
-use Rattle.std.proofs.lemmas.Bool.{true≢false, or_cases, or_left, ne_eqb, eq-eqb, and_from}
+use Rattle.std.proofs.lemmas.Bool.{true≢false, or_cases, or_left, ne_eqb, eq-eqb}
 use Rattle.std.proofs.lemmas.Bool.Decides.{eqb_tells}
-use Rattle.std.specs.Cmp.{nat_eq_equiv}
-use Rattle.std.specs.Cmp.Lexicographic.{nat_list_eq_equiv, options_equiv}
-use Rattle.dup_names.specs.Order.{key_cmp, obj_cmp}
+use Rattle.dup_names.specs.Order.{obj_cmp}
 use Rattle.dup_names.specs.declared.object.Obj.{Obj}
 use Rattle.dup_model.specs.declared.mark.Mark.{Mark}
 use Rattle.dup_model.specs.declared.mark.Mark.TheVariants as mark

@@ -1,10 +1,7 @@
 -- What a work finds, against what is live.
-use Rattle.std.proofs.Common.{◌≡◌, ℕ, zero, suc, ◌<◌, inl, inr, Bool, true, false, not, cond, ◌||◌, ◌&&◌, List, [], ◌∷◌, ◌++◌, map, refl, sym, ap, ◌∙◌, arith}
-use Rattle.std.specs.Prelude.{Option, Some, None}
-use Rattle.std.specs.List.{list_any, list_all, find, flat_map}
-use Rattle.std.specs.Option.{option_or}
-use Rattle.std.specs.Ordering.{is_lt}
-use Rattle.std.proofs.lemmas.Option.{none-some, same_Some}
+use Rattle.std.proofs.Common.{◌≡◌, ℕ, zero, suc, inl, inr, Bool, true, false, not, cond, ◌||◌, List, [], ◌∷◌, ◌++◌, map, refl, sym, ap, ◌∙◌}
+use Rattle.std.specs.Prelude.{Some, None}
+use Rattle.std.specs.List.{list_any, flat_map}
 use Rattle.std.proofs.lemmas.Bool.{true≢false, cases_Bool, or_cases, or_left, and_parts, and_from, not-true}
 use Rattle.std.proofs.lemmas.Bool.Decides.{eqb_tells}
 use Rattle.dup_names.specs.Order.{obj_cmp}
@@ -27,7 +24,7 @@ use Rattle.std.proofs.lemmas.Slice.Eq.{bytes_eq-Decides}
 use Rattle.dup_model.proofs.Reached.{or_right}
 use Rattle.dup_model.proofs.Ordering.{any_flat}
 use Rattle.dup_names.proofs.ObjectOrder.{obj_itself}
-use Rattle.dup_model.proofs.Earlier.{in_ordered, always, down_at, down_past, down_further, in_flat, of_flat, embeds_earlier}
+use Rattle.dup_model.proofs.Earlier.{in_ordered, always, down_at, down_past, down_further, in_flat, of_flat}
 use Rattle.dup_model.proofs.Objects.{in_filter, IsOnce, once_in_order}
 
 module _ (c : Content) (is_open : Obj → Bool) where

@@ -1,16 +1,11 @@
 -- What no touched item changes.
 use Rattle.std.proofs.Common.{◌≡◌, ℕ, zero, suc, inl, inr, Bool, true, false, not, cond, ◌||◌, List, [], ◌∷◌, ◌++◌, map, refl, sym, ap, subst, ◌∙◌}
 use Rattle.std.specs.List.{list_any, flat_map}
-use Rattle.std.specs.Ordering.{nat_cmp, ordering_then}
-use Rattle.std.specs.declared.cmp.Ordering.TheVariants.{Equal}
-use Rattle.std.specs.FinMap as fin
 use Rattle.std.proofs.lemmas.Bool.{true≢false, or_cases, or_left, ne_eqb, eq-eqb, not-false}
 use Rattle.std.proofs.lemmas.Bool.Decides.{eqb_tells}
 use Rattle.std.proofs.lemmas.Slice.Eq.{bytes_eq-Decides}
 use Rattle.dup_names.specs.Order.{text_cmp, obj_cmp, item_cmp}
 use Rattle.dup_names.specs.declared.object.Obj.{Obj}
-use Rattle.dup_names.specs.declared.object.Item.{Item}
-use Rattle.dup_names.specs.declared.object.Item.TheVariants as item
 use Rattle.dup_names.specs.declared.value.Value.{Value}
 use Rattle.dup_names.specs.declared.value.Value.TheVariants as seen
 use Rattle.dup_model.specs.declared.mark.Mark.{Mark}

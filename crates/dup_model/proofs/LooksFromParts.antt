@@ -1,11 +1,11 @@
 -- A look from the skeleton and the looks of what is embedded, without a content.
-use Rattle.std.proofs.Common.{◌≡◌, Bool, true, false, cond, ◌||◌, List, [], ◌∷◌, ◌++◌, map, Option, Some, None, refl, sym, ap, ◌∙◌}
+use Rattle.std.proofs.Common.{◌≡◌, Bool, true, false, cond, ◌||◌, List, [], ◌∷◌, ◌++◌, map, Some, refl, sym, ap, ◌∙◌}
 use Rattle.std.specs.List.{find, flat_map}
 use Rattle.std.specs.declared.cmp.Ordering.{Ordering}
 use Rattle.std.specs.declared.cmp.Ordering.TheVariants.{Less, Equal, Greater}
-use Rattle.std.proofs.lemmas.Bool.{true≢false, or_cases, or_left}
+use Rattle.std.proofs.lemmas.Bool.{true≢false, or_left}
 use Rattle.dup_names.specs.Order.{obj_cmp, text_cmp}
-use Rattle.dup_names.specs.Words.{Path, Word, in_order, put, put_at}
+use Rattle.dup_names.specs.Words.{Word, in_order, put, put_at}
 use Rattle.dup_names.specs.declared.object.Obj.{Obj}
 use Rattle.dup_names.specs.declared.value.Look.{Look}
 use Rattle.dup_model.specs.declared.mark.Mark.{Mark}

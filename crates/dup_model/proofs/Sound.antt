@@ -1,15 +1,13 @@
 -- The fact on closed sets, over tests.
 use Rattle.dup_model.proofs.Closed.{IsClosedBy}
 use Rattle.dup_model.specs.Needs.{IsClosed, NeededAreChanged}
-use Rattle.std.proofs.Common.{◌≡◌, ℕ, ◌⊎◌, inl, inr, Bool, true, false, not, ◌||◌, ◌&&◌, ◌==◌, List, [], ◌∷◌, Option, Some, None, refl, sym, ap, ◌∙◌}
+use Rattle.std.proofs.Common.{◌≡◌, ℕ, ◌⊎◌, inl, inr, Bool, true, false, not, ◌||◌, ◌&&◌, List, [], ◌∷◌, Option, Some, None, refl, sym, ap, ◌∙◌}
 use Rattle.std.specs.List.{list_any}
 use Rattle.std.specs.Option.{is_some, is_none, option_eq}
 use Rattle.std.specs.Prelude.{bytes_eq}
 use Rattle.std.specs.Cmp.{nat_eq_equiv}
 use Rattle.std.specs.Cmp.Lexicographic.{pointwise, nat_list_eq_equiv, options_equiv}
 use Rattle.std.proofs.lemmas.Bool.{not-false, true≢false, cases_Bool, and_parts, or_cases}
-use Rattle.std.proofs.lemmas.Bool.Decides.{Decides-eqb}
-use Rattle.std.proofs.lemmas.Slice.Eq.{bytes_eq-Decides}
 use Rattle.dup_names.specs.declared.object.Obj.{Obj}
 use Rattle.dup_names.proofs.ObjectOrder.{option_same, bytes_same, obj_same}
 use Rattle.dup_names.specs.Words.{Path}

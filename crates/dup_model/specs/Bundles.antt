@@ -1,5 +1,5 @@
 -- Which paths are published together.
-use Rattle.std.specs.Prelude.{zero, Bool, not, ◌&&◌, ◌||◌, List, [], ◌∷◌, ◌++◌, Option, Some, None, bytes_eq, map}
+use Rattle.std.specs.Prelude.{zero, Bool, not, ◌&&◌, ◌||◌, List, [], ◌∷◌, ◌++◌, Option, bytes_eq, map}
 use Rattle.std.specs.List.{filter, find, list_all}
 use Rattle.std.specs.Option.{option_map}
 use Rattle.std.specs.FinMap as fin

@@ -1,14 +1,9 @@
 -- The finest closed sets of changed paths, and which of them is the bundle.
-use Rattle.std.specs.Prelude.{◌≡◌, Bool, false, not, ◌||◌, List, Option, IsTrue}
-use Rattle.std.specs.List.{list_all, filter, find}
-use Rattle.std.specs.Option.{option_map}
+use Rattle.std.specs.Prelude.{◌≡◌, false, IsTrue}
 use Rattle.std.specs.Ordering.{is_lt}
 use Rattle.dup_names.specs.Order.{text_cmp}
 use Rattle.dup_names.specs.Words.{Path}
-use Rattle.dup_model.specs.Pages.{Target}
-use Rattle.dup_model.specs.Needs.{Looks, Paths, needs, changed, IsClosed}
-use Rattle.dup_model.specs.Editions.{Edition, looks, target_looks}
-use Rattle.dup_model.specs.Bundles.{reached, changed_paths}
+use Rattle.dup_model.specs.Needs.{Looks, Paths, changed, IsClosed}
 
 -- a closed set of changed paths that isn't empty and has no smaller one in it
 pub record IsFinest (e t : Looks) (s : Paths) : Type 0 where
