@@ -1,11 +1,10 @@
 -- Noting items one after the other.
-use Rattle.std.proofs.Common.{◌≡◌, Bool, true, false, cond, ◌||◌, List, refl, sym, ap, ◌∙◌, rules}
+use Rattle.std.proofs.Common.{◌≡◌, Bool, true, false, cond, ◌||◌, List, refl, sym, ap, ◌∙◌}
 use Rattle.std.specs.List.Sorted.{IsStrictlySortedBy}
 use Rattle.std.specs.Cmp.{eq_by_cmp_equiv}
 use Rattle.std.specs.Ordering.{eq_by_cmp}
 use Rattle.dup_names.specs.Order.{item_cmp}
 use Rattle.dup_names.specs.declared.object.Item.{Item}
-use Rattle.dup_names.specs.contracts.object.ItemOrd.TheImpl.{ghosts as items}
 use Rattle.dup_names.proofs.ItemOrder.{item_total}
 use Rattle.dup_records.specs.Moved.{Notes, has_item, one}
 
