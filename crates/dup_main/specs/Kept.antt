@@ -52,7 +52,7 @@ pub record Keeps (s : Session) (r : Kept) : Type 0 where
 abbrev pub Acts : Kept → Kept → ℕ → Command → Word → Type 0
 Acts old new number command text =
     (s : Session) → Keeps s old → Keeps (after_command old.site.value s command) new
-        × (text ≡ play_answer old.site.value s number command)
+    × (text ≡ play_answer old.site.value s number command)
 
 -- what holds whatever was done: the site is of the first form, the contents are its own, and each commit made
 -- one row at most

@@ -18,6 +18,7 @@ pub use mark::Mark;
 pub use mode::Mode;
 pub use publishing_laws::{bundle_law, closed_law, targets_law};
 pub use rendering_laws::{
-    changes_law, columns_law, expansions_law, good_sites_law, incremental_law, jobs_law, shows_law, uses_law,
+    changes_law, columns_law, expansions_law, good_sites_law, incremental_law, jobs_law, shows_law,
+    uses_law,
 };
 pub use serving_laws::serving_law;

@@ -15,11 +15,11 @@ invariant_of-result c =
       still_rising (λ t. t.value) c.in_ok-tables.tables.items c.self.inside.tables.items c.from.result c.in_ok-tables-2.field-0 c.args.rows.items
           same (c.in_ok-tables-2.ensures.ok ∙ c.of.ensures) c.self.invariant.1 c.requires.rising,
       subst (λ f. TablesFit f (map (λ t. t.value) (slice_set c.in_ok-tables.tables.items c.from.result c.in_ok-tables-2.field-0))) (ap frame_of (sym c.in_ok-site.ensures))
-      (subst (TablesFit (frame_of c.self.inside.site.value)) (sym (replaced (λ t. t.value) c.in_ok-tables.tables.items c.self.inside.tables.items c.from.result c.in_ok-tables-2.field-0 c.args.rows.items
-      same (c.in_ok-tables-2.ensures.ok ∙ c.of.ensures)))
-      (fit_set (frame_of c.self.inside.site.value) (map (λ t. t.value) c.self.inside.tables.items) c.from.result c.args.rows.items c.self.invariant.2
-      (subst (λ (s : Content). HaveTexts (length (fields_at s.frame c.from.result)) c.args.rows.items) (sym c.self.view_is)
-      (subst (λ n. HaveTexts (length (fields_at c.args.self.now.frame n)) c.args.rows.items) (sym c.from.ensures) c.requires.fit)))),
+          (subst (TablesFit (frame_of c.self.inside.site.value)) (sym (replaced (λ t. t.value) c.in_ok-tables.tables.items c.self.inside.tables.items c.from.result c.in_ok-tables-2.field-0 c.args.rows.items
+          same (c.in_ok-tables-2.ensures.ok ∙ c.of.ensures)))
+          (fit_set (frame_of c.self.inside.site.value) (map (λ t. t.value) c.self.inside.tables.items) c.from.result c.args.rows.items c.self.invariant.2
+          (subst (λ (s : Content). HaveTexts (length (fields_at s.frame c.from.result)) c.args.rows.items) (sym c.self.view_is)
+          (subst (λ n. HaveTexts (length (fields_at c.args.self.now.frame n)) c.args.rows.items) (sym c.from.ensures) c.requires.fit)))),
     )
 
 pub returns : goal.returns
