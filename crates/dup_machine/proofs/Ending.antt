@@ -14,7 +14,8 @@ use Rattle.dup_model.specs.Journal.{Limits}
 use Rattle.dup_model.specs.Pages.{target, live}
 use Rattle.dup_model.specs.Needs.{changed}
 use Rattle.dup_model.specs.Editions.{looks, edition, target_looks}
-use Rattle.dup_model.specs.Touched.{expanded, is_in, without}
+use Rattle.dup_names.specs.Objects.{is_in}
+use Rattle.dup_model.specs.Touched.{expanded, without}
 use Rattle.dup_machine.specs.World.{World, Work, Ended, told}
 use Rattle.dup_machine.specs.World.Begun.{Nothing}
 use Rattle.dup_machine.specs.World.Told.{Begins, Finished}

@@ -8,15 +8,16 @@ use Rattle.std.proofs.lemmas.Option.{none-some, same_Some}
 use Rattle.std.proofs.lemmas.Bool.{true≢false, cases_Bool, or_left, and_parts, and_from, not-true}
 use Rattle.dup_names.specs.Order.{obj_cmp}
 use Rattle.dup_names.specs.declared.object.Obj.{Obj}
+use Rattle.dup_names.specs.Objects.{same_obj, is_in}
 use Rattle.dup_model.specs.Content.{Content}
 use Rattle.dup_model.specs.Skeletons.{embeds}
-use Rattle.dup_model.specs.Touched.{same_obj, is_in}
 use Rattle.dup_machine.specs.World.{Work}
 use Rattle.dup_model.specs.Found.{found, waiting}
 use Rattle.dup_machine.specs.Works.{unjoined, level, next_of}
 use Rattle.dup_model.specs.Embeddings.{EmbedsEarlier}
 use Rattle.dup_model.proofs.Reached.{or_right}
-use Rattle.dup_model.proofs.Earlier.{obj_itself, embeds_earlier}
+use Rattle.dup_names.proofs.ObjectOrder.{obj_itself}
+use Rattle.dup_model.proofs.Earlier.{embeds_earlier}
 use Rattle.dup_model.proofs.Objects.{in_filter}
 use Rattle.dup_model.proofs.Finds.{done_unless_waiting, found_further}
 

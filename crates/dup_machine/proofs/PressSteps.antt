@@ -13,7 +13,7 @@ use Rattle.dup_model.specs.Versions.{IsHistory, content}
 use Rattle.dup_model.specs.Journal.{Limits, commit_refusal}
 use Rattle.dup_model.specs.Editions.{history}
 use Rattle.dup_model.specs.Answers.{Reply}
-use Rattle.dup_model.specs.Touched.{is_in}
+use Rattle.dup_names.specs.Objects.{is_in}
 use Rattle.dup_machine.specs.World.{World, Work, Slot, Told, answered}
 use Rattle.dup_machine.specs.World.Told.{Begins, Unasked}
 use Rattle.dup_machine.specs.World.Begun.{Same, Nothing, Opened}

@@ -29,7 +29,7 @@ use Rattle.dup_model.proofs.Reached.{tie_same}
 use Rattle.dup_model.proofs.ChangedPaths.{all_changed}
 use Rattle.dup_model.proofs.BundleFacts.{bundle_first, bundle_none}
 use Rattle.dup_model.proofs.Push.{edition_snoc}
-use Rattle.dup_model.proofs.Earlier.{obj_itself}
+use Rattle.dup_names.proofs.ObjectOrder.{obj_itself}
 
 uses_itself : (us : List (Obj × Word)) → pointwise same_use us us ≡ true
 uses_itself [] = refl

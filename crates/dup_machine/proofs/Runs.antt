@@ -24,7 +24,8 @@ use Rattle.dup_machine.specs.Run.{step, run}
 use Rattle.dup_machine.specs.Headline.{EachEventIsAnswered, LogGrows, Replied, LogIsGood, RepliesAreTrue, AheadIsTrue, SettledIsWhole, Headline}
 use Rattle.dup_model.proofs.Lists.{get_snoc, get_last, get_back, length_snoc, take_all_snoc}
 use Rattle.dup_model.proofs.Push.{good_empty, upto_snoc}
-use Rattle.dup_model.proofs.Sound.{look_same, option_same}
+use Rattle.dup_names.proofs.ObjectOrder.{option_same}
+use Rattle.dup_model.proofs.Sound.{look_same}
 use Rattle.dup_model.proofs.Caching.{FairReply}
 use Rattle.dup_machine.proofs.PressSteps.{reply_answered}
 use Rattle.dup_machine.proofs.Machine.{IsFit, Steps, FairTold, fit_step, no_more}

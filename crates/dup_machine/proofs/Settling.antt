@@ -22,7 +22,8 @@ use Rattle.dup_model.specs.Commits.{Commit}
 use Rattle.dup_model.specs.Versions.{content, version, target_content}
 use Rattle.dup_model.specs.Journal.{Limits}
 use Rattle.dup_model.specs.Pages.{live}
-use Rattle.dup_model.specs.Touched.{same_obj, is_in, without, differs, touched, affected, renewed, expanded, joined}
+use Rattle.dup_names.specs.Objects.{same_obj, is_in}
+use Rattle.dup_model.specs.Touched.{without, differs, touched, affected, renewed, expanded, joined}
 use Rattle.dup_machine.specs.World.{World, Work, Slot, Event, Told, told}
 use Rattle.dup_machine.specs.World.Event.{Begin, Hand, Put, Join, Finish}
 use Rattle.dup_machine.specs.World.Told.{Unasked, Finished, Begins, NoneWaits, SlotEmpty}
@@ -39,7 +40,8 @@ use Rattle.dup_model.specs.Embeddings.{EmbedsEarlier, embedded}
 use Rattle.dup_machine.specs.Settle.{hands, joins, settling, counts_of, begun_work, IsSettled, SettleReports, SettleResumes, NothingIsDone}
 use Rattle.dup_model.proofs.Reached.{or_right}
 use Rattle.dup_model.proofs.Histories.{content_of}
-use Rattle.dup_model.proofs.Earlier.{obj_itself, in_ordered}
+use Rattle.dup_names.proofs.ObjectOrder.{obj_itself}
+use Rattle.dup_model.proofs.Earlier.{in_ordered}
 use Rattle.dup_model.proofs.Ordering.{any_append}
 use Rattle.dup_model.proofs.Objects.{once_filter, in_filter, filter_same, one_less, some_less}
 use Rattle.dup_model.specs.Skeletons.{embeds, reads}

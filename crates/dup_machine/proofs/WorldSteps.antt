@@ -7,7 +7,7 @@ use Rattle.dup_names.specs.declared.value.Value.{Value}
 use Rattle.dup_template.specs.declared.site.Parts.{Parts}
 use Rattle.dup_model.specs.Expansions.{stale}
 use Rattle.dup_model.specs.Found.{waiting}
-use Rattle.dup_model.specs.Touched.{is_in}
+use Rattle.dup_names.specs.Objects.{is_in}
 use Rattle.dup_model.specs.Versions.{content}
 use Rattle.dup_machine.specs.Builds.{Build, kept_by, opened_at}
 use Rattle.dup_machine.specs.Press.{at, begun, kept, opened, press_of, put_back, replied}

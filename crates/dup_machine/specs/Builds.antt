@@ -7,7 +7,8 @@ use Rattle.dup_model.specs.Content.{Content, value}
 use Rattle.dup_model.specs.Expansions.{stale}
 use Rattle.dup_model.specs.Found.{waiting}
 use Rattle.dup_model.specs.Pages.{live}
-use Rattle.dup_model.specs.Touched.{is_in, without}
+use Rattle.dup_names.specs.Objects.{is_in}
+use Rattle.dup_model.specs.Touched.{without}
 use Rattle.dup_machine.specs.World.{Begun, Ended, Joined, Told, Work}
 use Rattle.dup_machine.specs.World.Begun.{Nothing, Opened, Same}
 use Rattle.dup_machine.specs.World.Told.{Kept, Stale, Unasked}

@@ -8,7 +8,8 @@ use Rattle.dup_model.specs.Content.{Content, start}
 use Rattle.dup_model.specs.Versions.{content, target_content}
 use Rattle.dup_model.specs.Journal.{Limits}
 use Rattle.dup_model.specs.Pages.{live}
-use Rattle.dup_model.specs.Touched.{expanded, joined, is_in, without}
+use Rattle.dup_names.specs.Objects.{is_in}
+use Rattle.dup_model.specs.Touched.{expanded, joined, without}
 use Rattle.dup_model.specs.Needs.{changed}
 use Rattle.dup_model.specs.Editions.{edition, looks, target_looks}
 use Rattle.dup_machine.specs.World.{World, Work, Told, Counts, Event}

@@ -10,7 +10,8 @@ use Rattle.dup_model.specs.Content.{Content}
 use Rattle.dup_model.specs.Skeletons.{embeds}
 use Rattle.dup_model.specs.Pages.{live}
 use Rattle.dup_model.specs.Found.{found}
-use Rattle.dup_model.specs.Touched.{is_in, without, touched, affected}
+use Rattle.dup_names.specs.Objects.{is_in}
+use Rattle.dup_model.specs.Touched.{without, touched, affected}
 use Rattle.dup_machine.specs.World.{Work}
 
 -- the found objects without a look

@@ -10,7 +10,7 @@ use Rattle.std.specs.BTreeMap as tree
 use Rattle.dup_names.specs.Order.{text_cmp}
 use Rattle.dup_names.specs.Words.{Path}
 use Rattle.dup_model.specs.Editions.{Page}
-use Rattle.dup_model.specs.Touched.{same_obj}
+use Rattle.dup_names.specs.Objects.{same_obj}
 use Rattle.dup_transcript.specs.Sessions.{Published, with_page, shows}
 use Rattle.dup_main.specs.Kept.{KeepsPages, has_same, page_of}
 use Rattle.dup_transcript.specs.RowPages.{plain_look}

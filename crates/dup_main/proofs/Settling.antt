@@ -14,7 +14,8 @@ use Rattle.dup_model.specs.Commits.{Commit}
 use Rattle.dup_model.specs.Content.{Content, keys, table}
 use Rattle.dup_model.specs.Pages.{live}
 use Rattle.dup_model.specs.Tables.{TablesRise}
-use Rattle.dup_model.specs.Touched.{expanded, joined, is_in, without}
+use Rattle.dup_names.specs.Objects.{is_in}
+use Rattle.dup_model.specs.Touched.{expanded, joined, without}
 use Rattle.dup_model.specs.Versions.{content, version, target_content}
 use Rattle.dup_machine.specs.Works.{more}
 use Rattle.dup_model.proofs.Histories.{content_of}

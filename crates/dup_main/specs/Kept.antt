@@ -1,6 +1,6 @@
 -- What the program keeps of a session.
 use Rattle.std.specs.Prelude.{◌≡◌, ℕ, ◌≤◌, true, Option, Some, None, length, Bool, false, ◌&&◌, bytes_eq}
-use Rattle.dup_model.specs.Touched.{same_obj}
+use Rattle.dup_names.specs.Objects.{same_obj}
 use Rattle.std.specs.Option.{option_map}
 use Rattle.std.specs.FinMap as fin
 use Rattle.std.specs.BTreeMap as tree
@@ -52,7 +52,7 @@ pub record Keeps (s : Session) (r : Kept) : Type 0 where
 abbrev pub Acts : Kept → Kept → ℕ → Command → Word → Type 0
 Acts old new number command text =
     (s : Session) → Keeps s old → Keeps (after_command old.site.value s command) new
-        × (text ≡ play_answer old.site.value s number command)
+    × (text ≡ play_answer old.site.value s number command)
 
 -- what holds whatever was done: the site is of the first form, the contents are its own, and each commit made
 -- one row at most

@@ -10,7 +10,7 @@ use Rattle.dup_transcript.specs.Inputs.{script}
 abbrev pub LeavesScript : Option Reading → Option Word → Type 0
 LeavesScript (Some all) (Some left) =
     (piece : Word) × (number : ℕ) × (taken : ℕ) × (length piece ≤ 4096)
-        × (script all ≡ reading number taken (piece ++ left))
+    × (script all ≡ reading number taken (piece ++ left))
 LeavesScript _ _ = Unit {0}
 
 -- where the source tells its bytes, no more of them was read than the site text and that piece

@@ -82,7 +82,7 @@ abbrev pub StopsInScript : Stop → (Reading → Word → Type 0) → Option Rea
 StopsInScript stop may None old new = IsReadingStop stop ⊎ (stop ≡ WriteFault)
 StopsInScript stop may (Some all) old new =
     (cuts stop ≡ true → (done : Word) × (ending all ≡ 7) × may all (done ++ stop_text stop)
-        × Appends old new done)
+    × Appends old new done)
     × (IsReadingStop stop ⊎ (stop ≡ WriteFault))
 
 abbrev pub writes : Stop → Bool
@@ -95,8 +95,8 @@ abbrev pub StopsAt : Task → Stop → Option Word → Option Word → Option Wo
 StopsAt task stop None old new = Unit {0}
 StopsAt task stop (Some input) old new =
     writes stop ≡ true → (done : Word)
-        × IsTranscript grammars task (reading 0 0 input) (stop_status stop) (done ++ stop_text stop)
-        × Appends old new done
+    × IsTranscript grammars task (reading 0 0 input) (stop_status stop) (done ++ stop_text stop)
+    × Appends old new done
 
 -- a text without a site that the task takes, whose line stands in its place; or want of memory
 abbrev pub BarsSite : Stop → Result Parts Word → Type 0

@@ -13,4 +13,4 @@ abbrev pub Takes : Content → Content → ℕ → Command → Word → Type 0
 Takes old new number command text =
     (site : Parts) (commits : List Commit) → old ≡ content site commits
     → (new ≡ content site (accepted site commits command))
-        × (text ≡ render_answer site commits number command)
+    × (text ≡ render_answer site commits number command)

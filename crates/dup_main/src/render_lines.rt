@@ -19,10 +19,10 @@ use crate::session::ROWS;
 use crate::stop::Stop;
 use crate::texts::{not_built, refusal_text};
 use dup_io::{Lines, Sink, Source, put_all};
-use dup_transcript::Command;
 use dup_names::NoMemory;
 use dup_records::{Commit, CommitRefusal, Content, apply};
 use dup_template::Site;
+use dup_transcript::Command;
 use std::alloc::Global;
 use std::sync::Arc;
 

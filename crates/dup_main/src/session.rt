@@ -10,10 +10,10 @@ use crate::texts::{
     refusal_text, settled_text,
 };
 use dup_model::Mode;
-use dup_transcript::Command;
 use dup_names::{NoMemory, Path};
 use dup_records::{Commit, CommitRefusal, Content, apply};
 use dup_template::Site;
+use dup_transcript::Command;
 use std::alloc::Global;
 use std::sync::Arc;
 

@@ -20,8 +20,7 @@ use Rattle.dup_model.specs.Skeletons.{reads}
 use Rattle.dup_model.specs.Touched.{AreChanged, differs, is_item, items_rise, touched}
 use Rattle.dup_model.specs.ChangedItems.{ChangesExist}
 use Rattle.dup_model.proofs.Canonical.{Rises, rises_in_order}
-use Rattle.dup_model.proofs.Incremental.{item_tied}
-use Rattle.dup_model.proofs.ItemOrder.{item_total}
+use Rattle.dup_names.proofs.ItemOrder.{item_tied, item_total}
 use Rattle.dup_model.proofs.Ordering.{any_append, any_in_order, all_in_order}
 use Rattle.dup_model.proofs.Reached.{or_right}
 

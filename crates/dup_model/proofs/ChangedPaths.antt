@@ -103,7 +103,3 @@ module _ {X : Type 0} where
       (λ later. rises x.0 es (and_parts _ _ sorted).0 q (and_parts _ _ (sym (has_filter f (map (λ x. x.0) es) q) ∙ later)).0)
       (λ is inside. first_least f es (and_parts _ _ sorted).1 p ps is q inside)
       is inside
-
-pub from_T : (b : Bool) → T b → b ≡ true
-from_T true h = refl
-from_T false h = absurd h

@@ -1,16 +1,9 @@
 -- What follows where templates embed earlier templates alone.
 use Rattle.std.proofs.Common.{◌≡◌, ℕ, zero, suc, ◌<◌, inl, inr, Bool, true, false, cond, List, [], ◌∷◌, ◌++◌, map, refl, sym, ap, subst, ◌∙◌, arith}
-use Rattle.std.specs.Prelude.{Option, Some, None}
 use Rattle.std.specs.List.{flat_map, AllByRecursion, Contains}
-use Rattle.std.specs.Ordering.{nat_cmp, ordering_then}
-use Rattle.std.specs.declared.cmp.Ordering.{Ordering}
-use Rattle.std.specs.declared.cmp.Ordering.TheVariants.{Less, Equal, Greater}
-use Rattle.std.specs.FinMap as fin
-use Rattle.std.proofs.lemmas.Bool.{true≢false, or_cases, or_left, ne_eqb, eq-eqb, and_from}
+use Rattle.std.proofs.lemmas.Bool.{true≢false, or_cases, or_left, ne_eqb, eq-eqb}
 use Rattle.std.proofs.lemmas.Bool.Decides.{eqb_tells}
-use Rattle.std.specs.Cmp.{nat_eq_equiv}
-use Rattle.std.specs.Cmp.Lexicographic.{nat_list_eq_equiv, options_equiv}
-use Rattle.dup_names.specs.Order.{key_cmp, obj_cmp}
+use Rattle.dup_names.specs.Order.{obj_cmp}
 use Rattle.dup_names.specs.declared.object.Obj.{Obj}
 use Rattle.dup_model.specs.declared.mark.Mark.{Mark}
 use Rattle.dup_model.specs.declared.mark.Mark.TheVariants as mark
@@ -21,36 +14,15 @@ use Rattle.dup_model.specs.Marks.{marks}
 use Rattle.dup_model.specs.Show.{show, shown, show_below}
 use Rattle.dup_model.specs.Skeletons.{embeds, hole_of}
 use Rattle.dup_model.specs.Looks.{uses, down}
-use Rattle.dup_model.specs.Touched.{same_obj, is_in}
+use Rattle.dup_names.specs.Objects.{same_obj, is_in}
 use Rattle.dup_model.specs.Embeddings.{EmbedsEarlier}
 use Rattle.dup_model.specs.Uses.{Uses, ShowIsOfMarks, UsesAreAll, LooksShow}
 use Rattle.dup_model.specs.Uses.Uses.{itself, further}
 use Rattle.dup_model.proofs.EachMark.{marks_all}
 use Rattle.dup_model.proofs.Below.{show-marks, show_below-early}
-use Rattle.dup_model.proofs.Sound.{obj_same}
+use Rattle.dup_names.proofs.ObjectOrder.{obj_itself, obj_same, obj_tied}
 use Rattle.dup_model.proofs.Reached.{or_right}
 use Rattle.dup_model.proofs.Ordering.{any_in_order, any_flat}
-
--- two tied objects are one
-
-pub then_equal : (a b : Ordering) → ordering_then a b ≡ Equal → (a ≡ Equal) × (b ≡ Equal)
-then_equal Less b is = cc
-then_equal Equal b is = (refl, is)
-then_equal Greater b is = cc
-
-key_tied : (a b : Option Word) → key_cmp a b ≡ Equal → a ≡ b
-key_tied None None is = refl
-key_tied None (Some b) is = cc
-key_tied (Some a) None is = cc
-key_tied (Some a) (Some b) is = ap Some (fin.slice_cmp-IsAntisymmetric fin.nat_cmp-IsAntisymmetric a b is)
-
-pub obj_tied : (a b : Obj) → obj_cmp a b ≡ Equal → a ≡ b
-obj_tied a b is =
-    let both : (nat_cmp a.template b.template ≡ Equal) × (key_cmp a.key b.key ≡ Equal) = then_equal _ _ is in
-    λ i. record { template = fin.nat_cmp-IsAntisymmetric a.template b.template both.0 i; key = key_tied a.key b.key both.1 i }
-
-pub obj_itself : (o : Obj) → same_obj o o ≡ true
-obj_itself o = and_from _ _ (nat_eq_equiv.refl o.template) ((options_equiv nat_list_eq_equiv).refl o.key)
 
 pub in_ordered : (os : List Obj) (f : Obj) → is_in (in_order obj_cmp os) f ≡ is_in os f
 in_ordered os f = any_in_order obj_cmp (same_obj f) (λ x y tie. ap (same_obj f) (obj_tied x y tie)) os

@@ -14,7 +14,8 @@ use Rattle.dup_model.specs.Content.{Content, value}
 use Rattle.dup_model.specs.Skeletons.{embeds, reads}
 use Rattle.dup_model.specs.Looks.{down, reached_from, uses}
 use Rattle.dup_model.specs.Pages.{pages, live}
-use Rattle.dup_model.specs.Touched.{same_obj, is_in, same_value}
+use Rattle.dup_names.specs.Objects.{same_obj, is_in}
+use Rattle.dup_model.specs.Touched.{same_value}
 use Rattle.dup_model.specs.Found.{found, waiting}
 use Rattle.dup_model.specs.Expansions.{notes, stale}
 use Rattle.dup_model.specs.Embeddings.{EmbedsEarlier}
@@ -22,7 +23,8 @@ use Rattle.std.specs.Cmp.Lexicographic.{pointwise}
 use Rattle.std.proofs.lemmas.Slice.Eq.{bytes_eq-Decides}
 use Rattle.dup_model.proofs.Reached.{or_right}
 use Rattle.dup_model.proofs.Ordering.{any_flat}
-use Rattle.dup_model.proofs.Earlier.{obj_itself, in_ordered, always, down_at, down_past, down_further, in_flat, of_flat}
+use Rattle.dup_names.proofs.ObjectOrder.{obj_itself}
+use Rattle.dup_model.proofs.Earlier.{in_ordered, always, down_at, down_past, down_further, in_flat, of_flat}
 use Rattle.dup_model.proofs.Objects.{in_filter, IsOnce, once_in_order}
 
 module _ (c : Content) (is_open : Obj → Bool) where

@@ -10,7 +10,8 @@ use Rattle.std.specs.FinMap as fin
 use Rattle.std.specs.Bool.{IsTrue}
 use Rattle.dup_model.proofs.Editions.{closed_after}
 use Rattle.dup_model.proofs.Reached.{tie_same, tie_itself, has_filter, closed_reached, reached_itself, through, Reaches-closed, Reaches-from_reached, or_right}
-use Rattle.dup_model.proofs.ChangedPaths.{only_changed, all_changed, first_least, from_T}
+use Rattle.dup_names.proofs.Truth.{from_T}
+use Rattle.dup_model.proofs.ChangedPaths.{only_changed, all_changed, first_least}
 use Rattle.dup_names.specs.Words.{Path}
 use Rattle.dup_model.specs.Needs.{Looks, Paths, needs, changed}
 use Rattle.dup_names.specs.Order.{text_cmp}

@@ -9,14 +9,14 @@ use Rattle.dup_model.specs.Content.{Content}
 use Rattle.dup_model.specs.Skeletons.{embeds}
 use Rattle.dup_model.specs.Looks.{down}
 use Rattle.dup_model.specs.Pages.{pages}
-use Rattle.dup_model.specs.Touched.{same_obj, is_in}
+use Rattle.dup_names.specs.Objects.{same_obj, is_in}
 use Rattle.dup_model.specs.Found.{found}
 use Rattle.dup_model.specs.Embeddings.{EmbedsEarlier}
 use Rattle.dup_model.specs.Found.{Found, FoundIsFound}
 use Rattle.dup_model.specs.Found.Found.{of_page, embedded}
-use Rattle.dup_model.proofs.Sound.{obj_same}
+use Rattle.dup_names.proofs.ObjectOrder.{obj_same, obj_itself}
 use Rattle.dup_model.proofs.Reached.{or_right}
-use Rattle.dup_model.proofs.Earlier.{obj_itself, down_at, down_past, down_itself, of_flat}
+use Rattle.dup_model.proofs.Earlier.{down_at, down_past, down_itself, of_flat}
 use Rattle.dup_model.proofs.Finds.{in_found, found_further}
 
 module _ (c : Content) (done : List Obj) where

@@ -1,16 +1,11 @@
 -- What no touched item changes.
 use Rattle.std.proofs.Common.{◌≡◌, ℕ, zero, suc, inl, inr, Bool, true, false, not, cond, ◌||◌, List, [], ◌∷◌, ◌++◌, map, refl, sym, ap, subst, ◌∙◌}
 use Rattle.std.specs.List.{list_any, flat_map}
-use Rattle.std.specs.Ordering.{nat_cmp, ordering_then}
-use Rattle.std.specs.declared.cmp.Ordering.TheVariants.{Equal}
-use Rattle.std.specs.FinMap as fin
 use Rattle.std.proofs.lemmas.Bool.{true≢false, or_cases, or_left, ne_eqb, eq-eqb, not-false}
 use Rattle.std.proofs.lemmas.Bool.Decides.{eqb_tells}
 use Rattle.std.proofs.lemmas.Slice.Eq.{bytes_eq-Decides}
 use Rattle.dup_names.specs.Order.{text_cmp, obj_cmp, item_cmp}
 use Rattle.dup_names.specs.declared.object.Obj.{Obj}
-use Rattle.dup_names.specs.declared.object.Item.{Item}
-use Rattle.dup_names.specs.declared.object.Item.TheVariants as item
 use Rattle.dup_names.specs.declared.value.Value.{Value}
 use Rattle.dup_names.specs.declared.value.Value.TheVariants as seen
 use Rattle.dup_model.specs.declared.mark.Mark.{Mark}
@@ -21,44 +16,18 @@ use Rattle.dup_model.specs.Marks.{marks}
 use Rattle.dup_model.specs.Show.{show, shown, show_below}
 use Rattle.dup_model.specs.Skeletons.{embeds, goes, read_by, hole_of, goes_by, pieces}
 use Rattle.dup_model.specs.Looks.{look, uses, down}
-use Rattle.dup_model.specs.Touched.{same_value, differs, touched, affected, is_in}
+use Rattle.dup_names.specs.Objects.{is_in}
+use Rattle.dup_model.specs.Touched.{same_value, differs, touched, affected}
 use Rattle.dup_model.specs.Incremental.{UntouchedIsSame, UnaffectedLooksSame}
 use Rattle.dup_model.proofs.Agree.{AreSame, marks-same}
-use Rattle.dup_model.proofs.Sound.{obj_same, list_same}
+use Rattle.dup_names.proofs.ItemOrder.{item_tied}
+use Rattle.dup_names.proofs.ObjectOrder.{obj_same, obj_tied, obj_itself}
+use Rattle.dup_model.proofs.Sound.{list_same}
 use Rattle.dup_model.proofs.Reached.{or_right}
 use Rattle.dup_model.proofs.Ordering.{any_in_order, any_flat}
-use Rattle.dup_model.proofs.Earlier.{obj_tied, obj_itself, in_ordered, always, down_at, down_past, then_equal, of_flat}
+use Rattle.dup_model.proofs.Earlier.{in_ordered, always, down_at, down_past, of_flat}
 
 -- tied items are one, and so are values that pass the test
-
-word_tied : (a b : Word) → text_cmp a b ≡ Equal → a ≡ b
-word_tied a b is = fin.slice_cmp-IsAntisymmetric fin.nat_cmp-IsAntisymmetric a b is
-
-pub item_tied : (x y : Item) → item_cmp x y ≡ Equal → x ≡ y
-item_tied (item.Field k q f) (item.Field l r g) is =
-    let one : (nat_cmp k l ≡ Equal) × (ordering_then (text_cmp q r) (nat_cmp f g) ≡ Equal) = then_equal _ _ is in
-    let two : (text_cmp q r ≡ Equal) × (nat_cmp f g ≡ Equal) = then_equal _ _ one.1 in
-    λ i. item.Field (fin.nat_cmp-IsAntisymmetric k l one.0 i) (word_tied q r two.0 i) (fin.nat_cmp-IsAntisymmetric f g two.1 i)
-item_tied (item.Field k q f) (item.Row l r) is = cc
-item_tied (item.Field k q f) (item.List l) is = cc
-item_tied (item.Field k q f) (item.Group l g r) is = cc
-item_tied (item.Row k q) (item.Field l r g) is = cc
-item_tied (item.Row k q) (item.Row l r) is =
-    let one : (nat_cmp k l ≡ Equal) × (text_cmp q r ≡ Equal) = then_equal _ _ is in
-    λ i. item.Row (fin.nat_cmp-IsAntisymmetric k l one.0 i) (word_tied q r one.1 i)
-item_tied (item.Row k q) (item.List l) is = cc
-item_tied (item.Row k q) (item.Group l g r) is = cc
-item_tied (item.List k) (item.Field l r g) is = cc
-item_tied (item.List k) (item.Row l r) is = cc
-item_tied (item.List k) (item.List l) is = ap item.List (fin.nat_cmp-IsAntisymmetric k l is)
-item_tied (item.List k) (item.Group l g r) is = cc
-item_tied (item.Group k f q) (item.Field l r g) is = cc
-item_tied (item.Group k f q) (item.Row l r) is = cc
-item_tied (item.Group k f q) (item.List l) is = cc
-item_tied (item.Group k f q) (item.Group l g r) is =
-    let one : (nat_cmp k l ≡ Equal) × (ordering_then (nat_cmp f g) (text_cmp q r) ≡ Equal) = then_equal _ _ is in
-    let two : (nat_cmp f g ≡ Equal) × (text_cmp q r ≡ Equal) = then_equal _ _ one.1 in
-    λ i. item.Group (fin.nat_cmp-IsAntisymmetric k l one.0 i) (fin.nat_cmp-IsAntisymmetric f g two.0 i) (word_tied q r two.1 i)
 
 bool_same : (a b : Bool) → cond a b (not b) ≡ true → a ≡ b
 bool_same true b is = sym is

@@ -28,11 +28,11 @@ use Rattle.dup_model.specs.Links.{link, link_via, linked_to, opening, closing}
 use Rattle.dup_model.specs.Skeletons.{embeds, hole_of}
 use Rattle.dup_model.specs.Looks.{down, reached_from}
 use Rattle.dup_model.specs.Pages.{pages, pages_of, keys_of}
-use Rattle.dup_model.specs.Touched.{is_in, same_obj}
+use Rattle.dup_names.specs.Objects.{is_in, same_obj}
 use Rattle.dup_model.specs.Found.{found}
 use Rattle.dup_model.specs.Jobs.{is_template, IsJob, all_fit, fits_step, statement_fits, body_fits, page_fits, JobsFit, FoundAreJobs}
 use Rattle.dup_model.proofs.EachMark.{all_append}
-use Rattle.dup_model.proofs.Sound.{obj_same}
+use Rattle.dup_names.proofs.ObjectOrder.{obj_same}
 use Rattle.dup_model.proofs.Ordering.{all_in_order}
 use Rattle.dup_model.proofs.Earlier.{down_at, down_past}
 

@@ -19,16 +19,16 @@ use Rattle.dup_model.specs.Marks.{marks}
 use Rattle.dup_model.specs.Show.{show, shown}
 use Rattle.dup_model.specs.Skeletons.{embeds, goes, pieces, before}
 use Rattle.dup_model.specs.Looks.{uses, look, down}
-use Rattle.dup_model.specs.Touched.{same_obj, is_in, touched}
+use Rattle.dup_names.specs.Objects.{same_obj, is_in}
+use Rattle.dup_model.specs.Touched.{touched}
 use Rattle.dup_model.specs.Embeddings.{EmbedsEarlier}
 use Rattle.dup_model.specs.Uses.{Uses}
 use Rattle.dup_model.specs.Uses.Uses.{itself, further}
 use Rattle.dup_model.specs.JoinedLooks.{filled, LooksAreJoined, AffectedUpwards}
-use Rattle.dup_model.proofs.Sound.{obj_same}
+use Rattle.dup_names.proofs.ObjectOrder.{obj_same, obj_tied, obj_itself, obj_total}
 use Rattle.dup_model.proofs.Reached.{or_right}
 use Rattle.dup_model.proofs.Ordering.{any_in_order, any_flat, any_append}
-use Rattle.dup_model.proofs.Earlier.{obj_tied, obj_itself, in_ordered, always, uses_are_all, show_is_of_marks, from_further}
-use Rattle.dup_model.proofs.Objects.{obj_total}
+use Rattle.dup_model.proofs.Earlier.{in_ordered, always, uses_are_all, show_is_of_marks, from_further}
 use Rattle.dup_model.proofs.Canonical.{same_in_order}
 
 -- the bytes

@@ -31,7 +31,6 @@ pub mod SiteRules
 pub mod Computed
 pub mod Induction
 pub mod GoodSites
-pub mod ItemOrder
 pub mod ChangedItems
 pub mod Keyed
 pub mod FoundWords

@@ -17,11 +17,11 @@ use Rattle.dup_model.specs.Looks.{look, uses}
 use Rattle.dup_model.specs.Marks.{marks}
 use Rattle.dup_model.specs.Show.{show, shown}
 use Rattle.dup_model.specs.Skeletons.{embeds, hole_of, skeleton}
-use Rattle.dup_model.specs.Touched.{is_in, same_obj}
-use Rattle.dup_model.proofs.Earlier.{in_ordered, obj_itself, show_is_of_marks}
+use Rattle.dup_names.specs.Objects.{is_in, same_obj}
+use Rattle.dup_names.proofs.ObjectOrder.{obj_itself, obj_same}
+use Rattle.dup_model.proofs.Earlier.{in_ordered, show_is_of_marks}
 use Rattle.dup_model.proofs.JoinedLooks.{filled_pieces, links_joined, uses_joined}
 use Rattle.dup_model.proofs.Reached.{or_right}
-use Rattle.dup_model.proofs.Sound.{obj_same}
 
 module _ (c : Content) where
   abbrev pair : Obj → Obj × Word

@@ -1,32 +1,16 @@
 -- Objects in order stand once each, and how many are left when some are taken.
-use Rattle.std.proofs.Common.{◌≡◌, suc, ◌+◌, ◌⊎◌, inl, inr, Bool, true, false, not, cond, ◌||◌, ◌&&◌, List, [], ◌∷◌, length, refl, sym, ap, subst, ◌∙◌, arith}
-use Rattle.std.specs.Prelude.{Option, Some, None}
-use Rattle.std.specs.Option.{option_cmp}
+use Rattle.std.proofs.Common.{◌≡◌, suc, ◌+◌, ◌⊎◌, inl, inr, Bool, true, false, not, cond, ◌||◌, ◌&&◌, List, [], ◌∷◌, length, refl, sym, ap, ◌∙◌, arith}
 use Rattle.std.specs.List.{filter}
-use Rattle.std.specs.Ordering.{nat_cmp, ordering_then}
 use Rattle.std.specs.declared.cmp.Ordering.TheVariants.{Less}
-use Rattle.std.specs.Cmp.{IsTotalOrder, nat_cmp_total}
-use Rattle.std.specs.Cmp.Lexicographic.{nat_list_cmp_total, options_total}
-use Rattle.std.proofs.lemmas.Cmp.{then_total, on_total}
 use Rattle.std.proofs.lemmas.Bool.{true≢false, cases_Bool, or_cases, or_left}
-use Rattle.dup_names.specs.Order.{text_cmp, key_cmp, obj_cmp}
+use Rattle.dup_names.specs.Order.{obj_cmp}
 use Rattle.dup_names.specs.declared.object.Obj.{Obj}
-use Rattle.dup_names.specs.Words.{Word, in_order}
-use Rattle.dup_model.specs.Touched.{same_obj, is_in, without}
-use Rattle.dup_model.proofs.Sound.{obj_same}
+use Rattle.dup_names.specs.Words.{in_order}
+use Rattle.dup_names.specs.Objects.{same_obj, is_in}
+use Rattle.dup_model.specs.Touched.{without}
+use Rattle.dup_names.proofs.ObjectOrder.{obj_itself, obj_same, obj_tied, obj_total}
 use Rattle.dup_model.proofs.Reached.{or_right}
-use Rattle.dup_model.proofs.Earlier.{obj_itself, obj_tied}
 use Rattle.dup_model.proofs.Canonical.{Below, Rises, rises_in_order, not_both}
-
-key_is : (a b : Option Word) → option_cmp text_cmp a b ≡ key_cmp a b
-key_is None None = refl
-key_is None (Some b) = refl
-key_is (Some a) None = refl
-key_is (Some a) (Some b) = refl
-
-pub obj_total : IsTotalOrder obj_cmp
-obj_total = subst IsTotalOrder (λ i a b. ordering_then (nat_cmp a.template b.template) (key_is a.key b.key i))
-    (then_total (on_total (λ o. o.template) nat_cmp_total) (on_total (λ o. o.key) (options_total nat_list_cmp_total)))
 
 -- no object stands twice
 abbrev pub IsOnce : List Obj → Type 0

@@ -1,42 +1,27 @@
 -- The fact on closed sets, over tests.
 use Rattle.dup_model.proofs.Closed.{IsClosedBy}
 use Rattle.dup_model.specs.Needs.{IsClosed, NeededAreChanged}
-use Rattle.std.proofs.Common.{◌≡◌, ℕ, ◌⊎◌, inl, inr, Bool, true, false, not, ◌||◌, ◌&&◌, ◌==◌, List, [], ◌∷◌, Option, Some, None, refl, sym, ap, ◌∙◌}
+use Rattle.std.proofs.Common.{◌≡◌, ℕ, ◌⊎◌, inl, inr, Bool, true, false, not, ◌||◌, ◌&&◌, List, [], ◌∷◌, Option, Some, None, refl, sym, ap, ◌∙◌}
 use Rattle.std.specs.List.{list_any}
 use Rattle.std.specs.Option.{is_some, is_none, option_eq}
 use Rattle.std.specs.Prelude.{bytes_eq}
 use Rattle.std.specs.Cmp.{nat_eq_equiv}
 use Rattle.std.specs.Cmp.Lexicographic.{pointwise, nat_list_eq_equiv, options_equiv}
 use Rattle.std.proofs.lemmas.Bool.{not-false, true≢false, cases_Bool, and_parts, or_cases}
-use Rattle.std.proofs.lemmas.Bool.Decides.{Decides-eqb}
-use Rattle.std.proofs.lemmas.Slice.Eq.{bytes_eq-Decides}
 use Rattle.dup_names.specs.declared.object.Obj.{Obj}
+use Rattle.dup_names.proofs.ObjectOrder.{option_same, bytes_same, obj_same}
 use Rattle.dup_names.specs.Words.{Path}
 use Rattle.dup_names.specs.declared.value.Look.{Look}
 use Rattle.dup_model.specs.Needs.{Looks, Paths, mixed, same_use, same_look, clash, links, needs, changed, IsSound}
-use Rattle.dup_model.specs.Touched.{same_obj}
+use Rattle.dup_names.specs.Objects.{same_obj}
 
 -- what the tests of sameness tell
-
-pub option_same : {A : Type 0} (E : A → A → Bool) → ((x y : A) → E x y ≡ true → x ≡ y) → (a b : Option A) → option_eq E a b ≡ true → a ≡ b
-option_same E same None None is = refl
-option_same E same None (Some y) is = absurd (true≢false (sym is))
-option_same E same (Some x) None is = absurd (true≢false (sym is))
-option_same E same (Some x) (Some y) is = ap Some (same x y is)
 
 pub list_same : {A : Type 0} (E : A → A → Bool) → ((x y : A) → E x y ≡ true → x ≡ y) → (xs ys : List A) → pointwise E xs ys ≡ true → xs ≡ ys
 list_same E same [] [] is = refl
 list_same E same [] (y ∷ ys) is = absurd (true≢false (sym is))
 list_same E same (x ∷ xs) [] is = absurd (true≢false (sym is))
 list_same E same (x ∷ xs) (y ∷ ys) is = let both : _ × _ = and_parts _ _ is in λ i. same x y both.0 i ∷ list_same E same xs ys both.1 i
-
-pub bytes_same : (a b : List ℕ) → bytes_eq a b ≡ true → a ≡ b
-bytes_same a b is = (bytes_eq-Decides a b).0 is
-
-pub obj_same : (a b : Obj) → same_obj a b ≡ true → a ≡ b
-obj_same a b is =
-    let both : (a.template == b.template) ≡ true × (option_eq bytes_eq a.key b.key ≡ true) = and_parts _ _ is in
-    λ i. record { template = (Decides-eqb a.template b.template).0 both.0 i; key = option_same bytes_eq bytes_same a.key b.key both.1 i }
 
 use_same : (a b : Obj × List ℕ) → same_use a b ≡ true → a ≡ b
 use_same a b is =

@@ -30,12 +30,12 @@ use Rattle.dup_model.specs.Skeletons.{goes, goes_by}
 use Rattle.dup_model.specs.Looks.{look, uses}
 use Rattle.dup_model.specs.Pages.{pages, pages_of, keys_of, target}
 use Rattle.dup_model.specs.Needs.{IsSound, links, clash}
-use Rattle.dup_model.specs.Touched.{same_obj}
+use Rattle.dup_names.specs.Objects.{same_obj}
 use Rattle.dup_model.specs.Editions.{target_looks}
 use Rattle.dup_model.specs.Embeddings.{embedded}
 use Rattle.dup_model.proofs.EachMark.{Gives, marks_all}
 use Rattle.dup_model.proofs.Reached.{tie_itself, or_right}
-use Rattle.dup_model.proofs.Sound.{obj_same}
+use Rattle.dup_names.proofs.ObjectOrder.{obj_same}
 use Rattle.dup_model.proofs.Ordering.{any_in_order, any_flat, any_map}
 
 -- the declaration is of this template

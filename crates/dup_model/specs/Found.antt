@@ -8,7 +8,8 @@ use Rattle.dup_names.specs.declared.object.Obj.{Obj}
 use Rattle.dup_model.specs.Content.{Content}
 use Rattle.dup_model.specs.Skeletons.{embeds}
 use Rattle.dup_model.specs.Pages.{pages}
-use Rattle.dup_model.specs.Touched.{is_in, without}
+use Rattle.dup_names.specs.Objects.{is_in}
+use Rattle.dup_model.specs.Touched.{without}
 use Rattle.dup_model.specs.Embeddings.{EmbedsEarlier}
 
 -- the pages' objects, and what is embedded by a found object that is done

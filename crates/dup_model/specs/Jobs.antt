@@ -10,7 +10,7 @@ use Rattle.dup_template.specs.declared.statement.Statement.{Statement, fold-Stat
 use Rattle.dup_template.specs.declared.statement.Statement.TheOpen.{Statement-F}
 use Rattle.dup_model.specs.Content.{Content, body_at}
 use Rattle.dup_model.specs.Names.{kind_of, template_at}
-use Rattle.dup_model.specs.Touched.{is_in}
+use Rattle.dup_names.specs.Objects.{is_in}
 use Rattle.dup_model.specs.Found.{found}
 
 abbrev pub is_template : Frame → ℕ → Bool

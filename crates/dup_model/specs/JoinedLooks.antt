@@ -13,7 +13,8 @@ use Rattle.dup_model.specs.Content.{Content}
 use Rattle.dup_model.specs.Show.{show}
 use Rattle.dup_model.specs.Skeletons.{skeleton, embeds}
 use Rattle.dup_model.specs.Looks.{uses, look}
-use Rattle.dup_model.specs.Touched.{same_obj, touched, affected}
+use Rattle.dup_names.specs.Objects.{same_obj}
+use Rattle.dup_model.specs.Touched.{touched, affected}
 use Rattle.dup_model.specs.Embeddings.{EmbedsEarlier}
 
 -- a piece's bytes, a hole's by `below`

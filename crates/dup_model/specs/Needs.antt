@@ -6,7 +6,7 @@ use Rattle.std.specs.Cmp.Lexicographic.{pointwise}
 use Rattle.dup_names.specs.declared.object.Obj.{Obj}
 use Rattle.dup_names.specs.declared.value.Look.{Look}
 use Rattle.dup_names.specs.Words.{Word, Path}
-use Rattle.dup_model.specs.Touched.{same_obj}
+use Rattle.dup_names.specs.Objects.{same_obj}
 
 -- which look each path has, if any
 abbrev pub Looks : Type 0

@@ -1,7 +1,6 @@
 -- What differs from a content a to a content b.
-use Rattle.std.specs.Prelude.{◌==◌, Bool, true, false, not, ◌&&◌, ◌||◌, List, [], ◌∷◌, Option, Some, None, IsTrue, bytes_eq, if◌then◌else◌}
+use Rattle.std.specs.Prelude.{Bool, true, false, not, ◌&&◌, ◌||◌, List, [], ◌∷◌, Option, Some, None, IsTrue, if◌then◌else◌}
 use Rattle.std.specs.List.{Contains, filter, list_any}
-use Rattle.std.specs.Option.{option_eq}
 use Rattle.std.specs.Ordering.{is_lt}
 use Rattle.std.specs.Cmp.Lexicographic.{pointwise}
 use Rattle.dup_names.specs.Grammar.{is_key}
@@ -11,6 +10,7 @@ use Rattle.dup_names.specs.declared.object.Item.{Item}
 use Rattle.dup_names.specs.declared.object.Item.TheVariants as item
 use Rattle.dup_names.specs.declared.value.Value.{Value}
 use Rattle.dup_names.specs.declared.value.Value.TheVariants as seen
+use Rattle.dup_names.specs.Objects.{is_in}
 use Rattle.dup_names.specs.Words.{same}
 use Rattle.dup_model.specs.Content.{Content, value}
 use Rattle.dup_model.specs.Skeletons.{reads}
@@ -44,13 +44,6 @@ pub record AreChanged (a b : Content) (items : List Item) : Type 0 where
   pub rising : IsTrue (items_rise items)
   pub all : (it : Item) → IsTrue (is_item it) → IsTrue (differs a b it) → Contains items it
   pub only : (it : Item) → Contains items it → IsTrue (differs a b it)
-
-abbrev pub same_obj : Obj → Obj → Bool
-same_obj a b = a.template == b.template && option_eq bytes_eq a.key b.key
-
--- one of these objects
-abbrev pub is_in : List Obj → Obj → Bool
-is_in objs o = list_any (same_obj o) objs
 
 -- the objects that don't pass a test
 abbrev pub without : (Obj → Bool) → List Obj → List Obj

@@ -7,7 +7,7 @@ use Rattle.dup_model.specs.Marks.{marks}
 use Rattle.dup_model.specs.Show.{show, shown}
 use Rattle.dup_model.specs.Skeletons.{embeds}
 use Rattle.dup_model.specs.Looks.{look, uses}
-use Rattle.dup_model.specs.Touched.{is_in}
+use Rattle.dup_names.specs.Objects.{is_in}
 use Rattle.dup_model.specs.Embeddings.{EmbedsEarlier}
 
 -- f is o, or is embedded by an object that o uses

@@ -4,3 +4,4 @@ pub mod Short
 pub mod Words
 pub mod LineWords
 pub mod Lines
+pub mod Objects

@@ -28,8 +28,7 @@ use Rattle.dup_model.specs.Tables.{IsBelow, IsRising, TablesRise}
 use Rattle.dup_model.specs.Touched.{AreChanged, differs, is_item, items_rise}
 use Rattle.dup_model.proofs.ChangedItems.{contained}
 use Rattle.dup_model.proofs.Changes.{other_kinds_stay, other_rows_stay}
-use Rattle.dup_model.proofs.Incremental.{item_tied}
-use Rattle.dup_model.proofs.ItemOrder.{item_total}
+use Rattle.dup_names.proofs.ItemOrder.{item_tied, item_total}
 use Rattle.dup_model.proofs.Reached.{or_right}
 use Rattle.dup_model.proofs.Tables.{equal_is, rising_at, rising_filter}
 use Rattle.dup_records.specs.Fits.{HaveTexts, RowsFit}

@@ -1,12 +1,11 @@
 -- Noting items one after the other.
-use Rattle.std.proofs.Common.{◌≡◌, Bool, true, false, cond, ◌||◌, List, refl, sym, ap, ◌∙◌, rules}
+use Rattle.std.proofs.Common.{◌≡◌, Bool, true, false, cond, ◌||◌, List, refl, sym, ap, ◌∙◌}
 use Rattle.std.specs.List.Sorted.{IsStrictlySortedBy}
 use Rattle.std.specs.Cmp.{eq_by_cmp_equiv}
 use Rattle.std.specs.Ordering.{eq_by_cmp}
 use Rattle.dup_names.specs.Order.{item_cmp}
 use Rattle.dup_names.specs.declared.object.Item.{Item}
-use Rattle.dup_names.specs.contracts.object.ItemOrd.TheImpl.{ghosts as items}
-use Rattle.dup_model.proofs.ItemOrder.{item_total}
+use Rattle.dup_names.proofs.ItemOrder.{item_total}
 use Rattle.dup_records.specs.Moved.{Notes, has_item, one}
 
 or_false : (b : Bool) → (b || false) ≡ b
@@ -16,13 +15,6 @@ or_false false = refl
 or_assoc : (a b c : Bool) → ((a || b) || c) ≡ (a || (b || c))
 or_assoc true b c = refl
 or_assoc false b c = refl
-
--- the derived order of items
-pub item_cmp_at : (a b : Item) → items.cmp a b ≡ item_cmp a b
-item_cmp_at a b = search rules
-
-pub item_cmp_is : items.cmp ≡ item_cmp
-item_cmp_is i a b = item_cmp_at a b i
 
 pub notes_none : (xs : List Item) → Notes xs xs (λ it. false)
 notes_none xs = record { order = λ h. h; each = λ it. sym (or_false (has_item xs it)) }

@@ -10,7 +10,7 @@ use Rattle.dup_names.specs.Order.{text_cmp}
 use Rattle.dup_names.specs.Words.{Word, same}
 use Rattle.dup_model.specs.Content.{Content, text}
 use Rattle.dup_model.specs.Here.{by_field}
-use Rattle.dup_model.proofs.Earlier.{then_equal}
+use Rattle.dup_names.proofs.ObjectOrder.{then_equal}
 
 word_tied : (a b : Word) → text_cmp a b ≡ Equal → a ≡ b
 word_tied a b is = fin.slice_cmp-IsAntisymmetric fin.nat_cmp-IsAntisymmetric a b is

@@ -14,9 +14,10 @@ use Rattle.dup_model.specs.Marks.{marks, statement_marks, body_marks, here_at}
 use Rattle.dup_model.specs.Pages.{live}
 use Rattle.dup_model.specs.Looks.{uses}
 use Rattle.dup_model.specs.Skeletons.{read_by}
-use Rattle.dup_model.specs.Touched.{differs, touched, affected, is_in}
+use Rattle.dup_names.specs.Objects.{is_in}
+use Rattle.dup_model.specs.Touched.{differs, touched, affected}
 use Rattle.dup_model.proofs.Ordering.{any_in_order, any_append}
-use Rattle.dup_model.proofs.Incremental.{item_tied}
+use Rattle.dup_names.proofs.ItemOrder.{item_tied}
 use Rattle.dup_model.proofs.Objects.{in_filter, filter_same}
 use Rattle.dup_transcript.specs.RowPages.{row_object}
 use Rattle.dup_transcript.specs.RowCounts.{is_touched_at, is_renewed, RowsAreCounted}

@@ -26,7 +26,8 @@ use Rattle.dup_transcript.specs.Sessions.{PlaysCommands, Published, Session, aft
 use Rattle.dup_model.specs.Pages.{page_looks}
 use Rattle.dup_transcript.specs.Texts.{settled_text}
 use Rattle.dup_transcript.specs.ScriptRows.{ScriptRow, input, output}
-use Rattle.dup_model.specs.Touched.{is_in, without}
+use Rattle.dup_names.specs.Objects.{is_in}
+use Rattle.dup_model.specs.Touched.{without}
 use Rattle.dup_transcript.specs.Transcript.{DoesSite, PlaysScript}
 use Rattle.dup_model.specs.Versions.{content}
 use Rattle.dup_machine.specs.Works.{more}

@@ -10,7 +10,8 @@ use Rattle.dup_model.specs.Marks.{statement_marks}
 use Rattle.dup_model.specs.Pages.{live}
 use Rattle.dup_model.specs.Skeletons.{read_by}
 use Rattle.dup_model.specs.Tables.{TablesRise}
-use Rattle.dup_model.specs.Touched.{differs, expanded, joined, is_in, without}
+use Rattle.dup_names.specs.Objects.{is_in}
+use Rattle.dup_model.specs.Touched.{differs, expanded, joined, without}
 use Rattle.dup_transcript.specs.FirstForm.{is_first_form, is_simple}
 
 -- an item that a statement reads at a row differs

@@ -3,7 +3,8 @@ use Rattle.std.specs.List.{list_any}
 use Rattle.std.specs.List.Sorted.{IsStrictlySortedBy}
 use Rattle.std.specs.Ordering.{eq_by_cmp}
 use Rattle.dup_names.specs.declared.object.Item.{Item}
-use Rattle.dup_records.proofs.Noted.{item_cmp_is, notes_one}
+use Rattle.dup_names.proofs.ItemOrder.{item_cmp_is}
+use Rattle.dup_records.proofs.Noted.{notes_one}
 use Rattle.dup_records.proofs.changing.note.Goals as goal
 
 pub returns : goal.returns

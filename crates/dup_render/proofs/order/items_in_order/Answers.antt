@@ -2,8 +2,7 @@ use Rattle.std.proofs.Common.{sym, subst, ◌∙◌}
 use Rattle.std.specs.List.Sorted.{IsSorted}
 use Rattle.std.proofs.lemmas.List.Filters.{dedup_is}
 use Rattle.dup_names.specs.Order.{item_cmp}
-use Rattle.dup_model.proofs.Incremental.{item_tied}
-use Rattle.dup_model.proofs.ItemOrder.{item_total}
+use Rattle.dup_names.proofs.ItemOrder.{item_tied, item_total}
 use Rattle.dup_render.proofs.DerivedOrders.{item_cmp_is, same_item_decides}
 use Rattle.dup_render.proofs.Sorting.{deduped_in_order}
 use Rattle.dup_render.proofs.order.items_in_order.Goals as goal
