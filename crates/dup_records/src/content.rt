@@ -219,7 +219,8 @@ impl Content {
         table_at(&self.tables, usize::from(kind))
     }
 
-    /// What its rows keep: they stand in the order of their keys, and have a text for each field.
+    /// What its rows keep: they stand in the order of their keys, and have a text for each field. It
+    /// does nothing: a proof learns what a type keeps by a call on the value.
     pub(crate) fn keeps_rows(&self)
         ensures rising { TablesRise self.now }
         ensures fit { RowsFit self.now }
