@@ -7,7 +7,7 @@ use Rattle.dup_main.proofs.desk.desk_main.Goals as goal
 pub returns-in-Ok-clause-run : goal.returns-in-Ok-clause-run
 returns-in-Ok-clause-run g c = λ done is.
     let w : IsSomeAnd (task_of c.args.words.now) (λ task.
-        WritesTranscript task (g.S.Source.left c.args.input.now) (g.K.Sink.written c.args.out.now) (g.K.Sink.written c.perform.new.out) 0) = search rules in
+    WritesTranscript task (g.S.Source.left c.args.input.now) (g.K.Sink.written c.args.out.now) (g.K.Sink.written c.perform.new.out) 0) = search rules in
     played_runs (task_of c.args.words.now) _ _ _ 0 is w
 
 pub returns-in-Err-clause-run : goal.returns-in-Err-clause-run
