@@ -70,7 +70,8 @@ puts r p = (r.0, with_build r.1 p)
 
 -- `put`: an expansion of o with these notes is brought back
 abbrev pub put_step : Parts → Obj → List (Item × Value) → Option Work → Option ℕ → Press → Told × Press
-put_step site o notes work target p = puts (put_in o notes work (build_at site (begun_version work target) p)) p
+put_step site o notes work target p =
+    puts (put_in o notes work (build_at site (begun_version work target) p)) p
 
 abbrev pub joins : Joined × Build → Press → Told × Press
 joins r p = (Joins r.0, with_build r.1 p)

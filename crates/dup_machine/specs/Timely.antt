@@ -15,8 +15,9 @@ abbrev pub IsWorkWithin : Option Work → ℕ → ℕ → Type 0
 IsWorkWithin None low high = Unit {0}
 IsWorkWithin (Some work) low high = (low ≤ work.version) × (work.version ≤ high)
 
--- the commits are a history; those of the log are the first of the target's version; the versions of the target
--- and of an open work are versions of the journal, the work's no earlier; without a target nothing is published
+-- the commits are a history; those of the log are the first of the target's version; the versions of the
+-- target and of an open work are versions of the journal, the work's no earlier; without a target nothing is
+-- published
 pub record IsTimely (site : Parts) (p : Press) : Type 0 where
   pub allowed : IsHistory site p.commits
   pub covered : (rest : List Commit) × (history p.log ++ rest ≡ take (version_of p.target) p.commits)

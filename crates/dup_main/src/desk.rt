@@ -144,8 +144,9 @@ pub fn desk_main<R: Threads + Sync, S: Source, K: Sink>(
     ensures no_read_fault { result ≢ 3 → result ≢ 4 → S.faults input.new ≡ S.faults input.old }
     ensures no_write_fault { result ≢ 4 → K.faults out.new ≡ K.faults out.old }
     ensures memory { result ≡ 6 → IsSome (task_of words.now) }
-    // The headline: what `play` writes for a script is what the machine replies to some events. Of their run its
-    // four clauses hold, and behind each settle nothing is pending. They hold of every list of events, too.
+    // The headline: what `play` writes for a script is what the machine replies to some events. Of their run
+    // its four clauses hold, and behind each settle nothing is pending. They hold of every list of events,
+    // too.
     ensures run { (result ≡ 0) ⊎ (result ≡ 7) → task_of words.now ≡ Some Task.Play →
         WritesRun (S.left input.old) (K.written out.old) (K.written out.new) }
     ensures headline { Headline }

@@ -68,7 +68,8 @@ pub(crate) fn publish_rows(
     requires content { IsOf site.now content.now }
     requires number { edition.old.number + length (table content.now 0) < 2 ^ 63 }
     ensures published { OnOk result ((p : Published) → KeepsPages p edition.old →
-        KeepsPages (with_pages version (map (row_page site.now content.now) (keys content.now 0)) p) edition.new) }
+        KeepsPages (with_pages version (map (row_page site.now content.now) (keys content.now 0)) p)
+        edition.new) }
     ensures grows { (edition.old.number ≤ edition.new.number)
         × (edition.new.number ≤ edition.old.number + length (table content.now 0)) }
 {

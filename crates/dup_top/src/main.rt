@@ -8,7 +8,8 @@ use std::env;
 use std::io::ErrorKind;
 use std::process::ExitCode;
 
-// The words behind the program's own name. None where one isn't UTF-8, which is no command line that is known.
+// The words behind the program's own name. None where one isn't UTF-8, which is no command line that is
+// known.
 fn words_of(rt: &HostRuntime, alloc: Global) -> Result<Vec<String>, AllocError> {
     let args = match env::args(rt) {
         Ok(args) => args,

@@ -61,7 +61,8 @@ pub record LinkNeedsPageRow : Type 0 where
     version = 1;
     look = look_of (codes "e1") (codes "Anext") [];
   } ∷ []
-  pub second : bundle (edition (one_alone ∷ [])) (target_of (one_first ∷ (then_two ∷ []))) ≡ Some (page_two ∷ [])
+  pub second : bundle (edition (one_alone ∷ [])) (target_of (one_first ∷ (then_two ∷ [])))
+      ≡ Some (page_two ∷ [])
 
 -- e2 names e1 as its next one, and then e1 goes
 abbrev pub both : Commit
@@ -102,7 +103,7 @@ pub record LinkerChangesRow : Type 0 where
     look = look_of (codes "e2") (codes "Bnext") [];
   } ∷ []
   pub drops : last_bundle.drops ≡ []
-  pub last : bundle (edition (linked_page ∷ (linking_page ∷ (last_bundle ∷ [])))) (target_of (both ∷ (one_goes ∷ [])))
-      ≡ Some (page_one ∷ [])
+  pub last : bundle (edition (linked_page ∷ (linking_page ∷ (last_bundle ∷ []))))
+      (target_of (both ∷ (one_goes ∷ []))) ≡ Some (page_one ∷ [])
   pub last_puts : vanishing.puts ≡ []
   pub last_drops : vanishing.drops ≡ page_one ∷ []

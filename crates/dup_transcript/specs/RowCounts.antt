@@ -16,7 +16,8 @@ use Rattle.dup_transcript.specs.FirstForm.{is_first_form, is_simple}
 
 -- an item that a statement reads at a row differs
 abbrev pub is_touched_at : Content → Content → Word → Statement → Bool
-is_touched_at a b key s = list_any (differs a b) (flat_map read_by (statement_marks a s (row_at 0 (Some key))))
+is_touched_at a b key s =
+    list_any (differs a b) (flat_map read_by (statement_marks a s (row_at 0 (Some key))))
 
 -- the row is new, or a field that its template reads differs
 abbrev pub is_renewed : Option Content → Content → Word → Bool

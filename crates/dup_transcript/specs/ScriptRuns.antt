@@ -20,8 +20,8 @@ abbrev pub LeavesNothing : Parts → World → Command → Type 0
 LeavesNothing site w command.Settle = NothingPending site w
 LeavesNothing site w _ = Unit {0}
 
--- `all` are these events and those that the commands stand for. What is written is what the machine replies to
--- them, and then what is written last; behind each settle nothing is pending
+-- `all` are these events and those that the commands stand for. What is written is what the machine replies
+-- to them, and then what is written last; behind each settle nothing is pending
 abbrev pub PlaysEvents : Parts → Limits → List Event → ℕ → List Command → Word → Word → List Event → Type 0
 PlaysEvents site limits before number [] last out all = (out ≡ last) × (all ≡ before)
 PlaysEvents site limits before number (command ∷ rest) last out all =
@@ -31,8 +31,8 @@ PlaysEvents site limits before number (command ∷ rest) last out all =
     × LeavesNothing site (run site limits (before ++ events)) command
     × PlaysEvents site limits (before ++ events) (number + 1) rest last more all))
 
--- what is written for a script behind a site text of so many lines is what the machine replies to some events,
--- and of their run the headline holds
+-- what is written for a script behind a site text of so many lines is what the machine replies to some
+-- events, and of their run the headline holds
 abbrev pub IsRun : (Word → Command) → Parts → ℕ → Reading → Word → Type 0
 IsRun feed site number input out =
     let all = commands feed input in
@@ -40,9 +40,11 @@ IsRun feed site number input out =
     (events : List Event) × PlaysEvents site limits [] number all (too_long input) out events
     × HeadlineAt site limits events
 
--- where the site text of an input is read whole and its site is played, `site ok` is written, and then such a run
+-- where the site text of an input is read whole and its site is played, `site ok` is written, and then such a
+-- run
 abbrev pub HasRun : Grammars → Reading → Word → Type 0
-HasRun g input out = (site : Parts) → site_is_read input ≡ true → site_for g Play (site_text input) ≡ Ok site →
+HasRun g input out = (site : Parts) → site_is_read input ≡ true →
+    site_for g Play (site_text input) ≡ Ok site →
     (more : Word) × (out ≡ site_ok ++ more) × IsRun g.feed site (site_lines input) (script input) more
 
 -- so it is with each transcript of `play`

@@ -123,5 +123,6 @@ TranscriptsExist = (g : Grammars) → GivesGoodSites g → (task : Task) (input 
     × ((out : Word) × IsTranscript g task input status out)
 
 abbrev pub TranscriptsAreOne : Type 0
-TranscriptsAreOne = (g : Grammars) → GivesGoodSites g → (task : Task) (input : Reading) (s t : ℕ) (out other : Word) →
+TranscriptsAreOne = (g : Grammars) → GivesGoodSites g →
+    (task : Task) (input : Reading) (s t : ℕ) (out other : Word) →
     IsTranscript g task input s out → IsTranscript g task input t other → (s ≡ t) × (out ≡ other)
