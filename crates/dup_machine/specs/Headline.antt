@@ -1,4 +1,4 @@
--- The headline.
+-- The headline. The laws above: `headline`, `runs_law`.
 use Rattle.std.specs.Prelude.{◌≡◌, ℕ, ◌≤◌, ◌<◌, ◌++◌, Bool, List, Some, None, length, take, slice_get}
 use Rattle.std.specs.FinMap as fin
 use Rattle.dup_template.specs.declared.site.Parts.{Parts}

@@ -1,4 +1,4 @@
--- The machine: one step for each event.
+-- The machine: one step for each event. The law above: `runs_law`.
 use Rattle.std.specs.Prelude.{List}
 use Rattle.std.specs.List.{fold}
 use Rattle.std.specs.FinMap as fin

@@ -1,4 +1,4 @@
--- The events of settling, what it reports, and that it leaves nothing pending.
+-- The events of settling, what it reports, and that it leaves nothing pending. The law above: `settle_law`.
 use Rattle.std.specs.Prelude.{◌≡◌, ◌==◌, ℕ, zero, suc, ◌≤◌, ◌-◌, ◌^◌, ◌&&◌, not, List, [], ◌∷◌, ◌++◌, Option, Some, None, length, if◌then◌else◌, false}
 use Rattle.std.specs.List.{fold, filter}
 use Rattle.std.specs.FinMap as fin

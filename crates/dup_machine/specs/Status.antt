@@ -1,4 +1,4 @@
--- What a press tells of its state, and when nothing is pending.
+-- What a press tells of its state, and when nothing is pending. The law above: `status_law`.
 use Rattle.std.specs.Prelude.{◌≡◌, ◌↔◌, ◌==◌, ℕ, Bool, false, not, ◌||◌, Option, Some, None, is_some, length}
 use Rattle.std.specs.Option.{option_map}
 use Rattle.dup_names.specs.Words.{Path}

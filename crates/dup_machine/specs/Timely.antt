@@ -1,4 +1,4 @@
--- What holds of a press at every moment.
+-- What holds of a press at every moment. The law above: `runs_law`.
 use Rattle.std.specs.Prelude.{◌≡◌, ℕ, ◌≤◌, List, [], ◌++◌, take, Option, Some, None, length}
 use Rattle.dup_template.specs.declared.site.Parts.{Parts}
 use Rattle.dup_model.specs.Commits.{Commit}

@@ -1,4 +1,5 @@
--- What a work joins next, which object is handed next, and how a work begins, moves and grows.
+-- What a work joins next, which object is handed next, and how a work begins, moves and grows. The law above:
+-- `settle_law`.
 use Rattle.std.specs.Prelude.{ℕ, ◌+◌, ◌-◌, ◌^◌, List, [], ◌∷◌, ◌++◌, min, Option, Some, None, length}
 use Rattle.std.specs.List.{filter, find, list_all}
 use Rattle.std.specs.Option.{option_or}

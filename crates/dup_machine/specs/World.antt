@@ -1,4 +1,4 @@
--- The state of the machine, its events and its replies.
+-- The state of the machine, its events and its replies. The law above: `runs_law`.
 use Rattle.std.specs.Prelude.{ℕ, Bool, List, [], ◌++◌, ◌∷◌, Option, None}
 use Rattle.std.specs.Ordering.{nat_cmp}
 use Rattle.std.specs.FinMap as fin

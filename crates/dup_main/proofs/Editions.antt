@@ -15,7 +15,7 @@ use Rattle.dup_transcript.specs.Sessions.{Published, with_page, shows}
 use Rattle.dup_main.specs.Kept.{KeepsPages, has_same, page_of}
 use Rattle.dup_transcript.specs.RowPages.{plain_look}
 use Rattle.dup_main.specs.declared.edition.Edition.{Edition as KeptEdition}
-use Rattle.dup_main.specs.declared.edition.Rendered.{Rendered}
+use Rattle.dup_main.specs.declared.edition.EditionPage.{EditionPage}
 
 twice : (x y : Bool) → (x && y && ((x && y) && true) && true) ≡ (x && y)
 twice true true = refl
@@ -23,7 +23,7 @@ twice true false = refl
 twice false true = refl
 twice false false = refl
 
-shows_kept : (path : Path) (old : Option Rendered) (new : Rendered) → shows (option_map (page_of path) old) (plain_look new.obj new.bytes.items) ≡ has_same old new
+shows_kept : (path : Path) (old : Option EditionPage) (new : EditionPage) → shows (option_map (page_of path) old) (plain_look new.obj new.bytes.items) ≡ has_same old new
 shows_kept path None new = refl
 shows_kept path (Some old) new = twice (same_obj old.obj new.obj) (bytes_eq old.bytes.items new.bytes.items)
 
@@ -41,14 +41,14 @@ tie_back p q false true e f =
     let s : q ≡ p = same_path q p f in
     sym e ∙ subst (λ (x : Path). eq_by_cmp text_cmp x q ≡ true) s (subst (λ (x : Path). eq_by_cmp text_cmp q x ≡ true) (sym s) f)
 
-pub same_page : (p : Published) (r : KeptEdition) (path : Path) (page : Rendered) → KeepsPages p r → has_same (tree.get text_cmp r.pages path) page ≡ true
+pub same_page : (p : Published) (r : KeptEdition) (path : Path) (page : EditionPage) → KeepsPages p r → has_same (tree.get text_cmp r.pages path) page ≡ true
     → KeepsPages (with_page page.version p (path, plain_look page.obj page.bytes.items)) r
 same_page p r path page k same =
     let e : shows (fin.get p.edition path) (plain_look page.obj page.bytes.items) ≡ true =
     ap (λ (o : Option Page). shows o (plain_look page.obj page.bytes.items)) (k.pages path) ∙ shows_kept path (tree.get text_cmp r.pages path) page ∙ same in
     rw e k
 
-pub new_page : (p : Published) (r next : KeptEdition) (path : Path) (page : Rendered) → KeepsPages p r → has_same (tree.get text_cmp r.pages path) page ≡ false
+pub new_page : (p : Published) (r next : KeptEdition) (path : Path) (page : EditionPage) → KeepsPages p r → has_same (tree.get text_cmp r.pages path) page ≡ false
     → next.number ≡ r.number + 1 → tree.Updates text_cmp r.pages next.pages path (Some page)
     → KeepsPages (with_page page.version p (path, plain_look page.obj page.bytes.items)) next
 new_page p r next path page k other number updates =
@@ -59,7 +59,7 @@ new_page p r next path page k other number updates =
       pages = λ q.
           fin.get-insert nat_list_cmp_total p.edition path (page_of path page) q
           ∙ by_tie q (eq_by_cmp text_cmp q path) (is_eq (text_cmp path q)) refl refl
-          ∙ ap (λ (o : Option Rendered). option_map (page_of q) o) (sym (updates.0 q));
+          ∙ ap (λ (o : Option EditionPage). option_map (page_of q) o) (sym (updates.0 q));
     })
   where
     by_tie : (q : Path) (b c : Bool) → eq_by_cmp text_cmp q path ≡ b → eq_by_cmp text_cmp path q ≡ c

@@ -22,7 +22,7 @@ use Rattle.dup_model.proofs.Histories.{content_of}
 use Rattle.dup_model.proofs.Tables.{versions_rise}
 use Rattle.dup_transcript.specs.declared.command.Command.TheVariants as command
 use Rattle.dup_main.specs.declared.edition.Edition.{Edition as KeptEdition}
-use Rattle.dup_main.specs.declared.edition.Rendered.{Rendered}
+use Rattle.dup_main.specs.declared.edition.EditionPage.{EditionPage}
 use Rattle.dup_main.specs.declared.session.Session.{Session as Kept}
 use Rattle.dup_main.specs.Kept.{Acts, IsReady, KeepsPages, page_of}
 use Rattle.dup_transcript.specs.RowCounts.{CountsRows, IsSettledOf, renewed_count}
@@ -33,7 +33,7 @@ use Rattle.dup_transcript.specs.Texts.{found_text, settled_text}
 use Rattle.dup_transcript.proofs.RowCountLemmas.{rows_counted}
 use Rattle.dup_transcript.proofs.RowPageLemmas.{row_pages}
 
-pub found_acts : (r : Kept) (node pass : ℕ) (path : Path) (page : Rendered) (text : Word) → list_any (nat_eq node) r.nodes.items ≡ true → pass ≤ r.edition.number
+pub found_acts : (r : Kept) (node pass : ℕ) (path : Path) (page : EditionPage) (text : Word) → list_any (nat_eq node) r.nodes.items ≡ true → pass ≤ r.edition.number
     → tree.get text_cmp r.edition.pages path ≡ Some page → text ≡ found_text r.edition.number (page_of path page) → Acts r r 0 (command.Get node pass path) text
 found_acts r node pass path page text there reaches found said = λ s k.
     let a : has_node s node ≡ true = sym (ap (list_any (nat_eq node)) k.nodes) ∙ there in

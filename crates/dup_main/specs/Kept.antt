@@ -15,17 +15,17 @@ use Rattle.dup_transcript.specs.RowPages.{plain_look}
 use Rattle.dup_transcript.specs.Sessions.{Session, Published, after_command, play_answer}
 use Rattle.dup_transcript.specs.Commands.{Command}
 use Rattle.dup_main.specs.declared.edition.Edition.{Edition as KeptEdition}
-use Rattle.dup_main.specs.declared.edition.Rendered.{Rendered}
+use Rattle.dup_main.specs.declared.edition.EditionPage.{EditionPage}
 use Rattle.dup_main.specs.declared.session.Session.{Session as Kept}
 
-abbrev pub page_of : Path → Rendered → Page
+abbrev pub page_of : Path → EditionPage → Page
 page_of path r = record { path = path; version = r.version; look = plain_look r.obj r.bytes.items }
 
 -- two pages of one path have the same look
-abbrev pub is_same : Rendered → Rendered → Bool
+abbrev pub is_same : EditionPage → EditionPage → Bool
 is_same old new = same_obj old.obj new.obj && bytes_eq old.bytes.items new.bytes.items
 
-abbrev pub has_same : Option Rendered → Rendered → Bool
+abbrev pub has_same : Option EditionPage → EditionPage → Bool
 has_same None new = false
 has_same (Some old) new = is_same old new
 

@@ -10,7 +10,7 @@ use std::collections::BTreeMap;
 
 /// A page as an edition has it: its object, the version that it was rendered from, and its bytes.
 #[derive(Drop)]
-pub(crate) struct Rendered {
+pub(crate) struct EditionPage {
     pub(crate) obj: Obj,
     pub(crate) version: u64,
     pub(crate) bytes: Vec<u8>,
@@ -20,13 +20,13 @@ pub(crate) struct Rendered {
 #[derive(Drop)]
 pub(crate) struct Edition {
     pub(crate) number: u64,
-    pub(crate) pages: BTreeMap<Path, Rendered>,
+    pub(crate) pages: BTreeMap<Path, EditionPage>,
 }
 
-impl Rendered {
+impl EditionPage {
     ghost use Rattle.dup_main.specs.Kept.{is_same};
 
-    fn is_same(&self, new: &Rendered) -> bool
+    fn is_same(&self, new: &EditionPage) -> bool
         ensures { result ≡ is_same self.now new.now }
     {
         self.obj == new.obj && self.bytes.as_slice() == new.bytes.as_slice()
@@ -49,13 +49,13 @@ impl Edition {
     }
 
     /// The page at a path.
-    pub(crate) fn get(&self, path: &Path) -> Option<&Rendered>
+    pub(crate) fn get(&self, path: &Path) -> Option<&EditionPage>
         ensures { option_copied result ≡ tree.get text_cmp self.now.pages path.now }
     {
         self.pages.get(path)
     }
 
-    fn shows(&self, path: &Path, page: &Rendered) -> bool
+    fn shows(&self, path: &Path, page: &EditionPage) -> bool
         ensures { result ≡ has_same (tree.get text_cmp self.now.pages path.now) page.now }
     {
         match self.pages.get(path) {
@@ -65,7 +65,7 @@ impl Edition {
     }
 
     /// Publishes a page as a bundle of its own, where the edition has another at its path or none.
-    pub(crate) fn publish(&mut self, path: Path, page: Rendered) -> Result<(), NoMemory>
+    pub(crate) fn publish(&mut self, path: Path, page: EditionPage) -> Result<(), NoMemory>
         requires { self.old.number < 2 ^ 63 }
         ensures published { OnOk result ((p : Published) → KeepsPages p self.old →
             KeepsPages (with_page page.version p (path, plain_look page.obj page.bytes.items)) self.new) }

@@ -5,7 +5,7 @@ ghost use Rattle.dup_main.specs.Kept.{KeepsPages};
 ghost use Rattle.dup_transcript.specs.RowPages.{row_object, row_page, row_path};
 ghost use Rattle.dup_transcript.specs.Sessions.{Published, with_pages, with_page};
 
-use crate::edition::{Edition, Rendered};
+use crate::edition::{Edition, EditionPage};
 use dup_names::{Key, NoMemory, Obj, Path};
 use dup_records::Content;
 use dup_render::show_plain;
@@ -48,7 +48,7 @@ fn publish_row(
         × (edition.new.number ≤ edition.old.number + 1) }
 {
     let obj = row_object(key);
-    let page = Rendered {
+    let page = EditionPage {
         obj,
         version,
         bytes: show_plain(alloc, content, &obj)?,

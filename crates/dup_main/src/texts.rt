@@ -6,7 +6,7 @@ ghost use Rattle.dup_main.specs.Kept.{page_of};
 ghost use Rattle.dup_transcript.specs.Texts.{found_text, refusal_text, settled_text};
 ghost use Rattle.dup_names.specs.Lines.{line};
 
-use crate::edition::Rendered;
+use crate::edition::EditionPage;
 use dup_names::NoMemory;
 use dup_records::CommitRefusal;
 use std::alloc::{AllocError, Global};
@@ -91,7 +91,11 @@ pub(crate) fn settled_text(
     )
 }
 
-pub(crate) fn found_text(alloc: Global, edition: u64, page: &Rendered) -> Result<Vec<u8>, NoMemory>
+pub(crate) fn found_text(
+    alloc: Global,
+    edition: u64,
+    page: &EditionPage,
+) -> Result<Vec<u8>, NoMemory>
     ensures { IfOk result (λ text. (path : List ℕ) →
         text.items ≡ found_text edition (page_of path page.now)) }
 {

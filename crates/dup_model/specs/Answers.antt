@@ -1,4 +1,4 @@
--- What a request is answered.
+-- What a request is answered. The law above: `serving_law`.
 use Rattle.std.specs.Prelude.{ℕ, nat_lt, nat_le, Bool, true, false, List, Option, Some, None, if◌then◌else◌}
 use Rattle.std.specs.FinMap as fin
 use Rattle.dup_names.specs.Words.{Path}

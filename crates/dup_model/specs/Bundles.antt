@@ -1,4 +1,4 @@
--- Which paths are published together.
+-- Which paths are published together. The law above: `bundle_law`.
 use Rattle.std.specs.Prelude.{zero, Bool, not, ◌&&◌, ◌||◌, List, [], ◌∷◌, ◌++◌, Option, bytes_eq, map}
 use Rattle.std.specs.List.{filter, find, list_all}
 use Rattle.std.specs.Option.{option_map}

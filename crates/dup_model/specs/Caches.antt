@@ -1,4 +1,4 @@
--- A cache of pages, and how it catches up with a log.
+-- A cache of pages, and how it catches up with a log. The law above: `serving_law`.
 use Rattle.std.specs.Prelude.{ℕ, nat_lt, ◌∷◌, [], Bool, not, ◌||◌, List, Option, length, take, drop, bytes_eq, if◌then◌else◌}
 use Rattle.std.specs.List.{filter, filter_map, find, list_any}
 use Rattle.std.specs.FinMap as fin

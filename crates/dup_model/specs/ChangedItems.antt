@@ -1,4 +1,4 @@
--- The list of changed items, and what it tells of an object.
+-- The list of changed items, and what it tells of an object. The law above: `changes_law`.
 use Rattle.std.specs.Prelude.{◌↔◌, List, IsTrue}
 use Rattle.std.specs.List.{Contains, AllByRecursion}
 use Rattle.dup_names.specs.Grammar.{is_key}

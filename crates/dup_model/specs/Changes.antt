@@ -1,4 +1,4 @@
--- What a change makes of the rows, in words.
+-- What a change makes of the rows, in words. The law above: `commits_law`.
 use Rattle.std.specs.Prelude.{◌≡◌, ◌<◌, ◌==◌, ℕ, false, List, ◌∷◌, ◌++◌, Some, None, length}
 use Rattle.std.specs.List.{list_any, slice_get}
 use Rattle.std.specs.Option.{unwrap_or}

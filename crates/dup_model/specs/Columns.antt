@@ -1,5 +1,5 @@
 -- What each kind of statement reads, embeds and links to, by an equation each: the other columns of the table
--- of statements.
+-- of statements. The law above: `columns_law`.
 use Rattle.std.specs.Prelude.{◌≡◌, ℕ, ◌==◌, List, [], ◌∷◌, ◌++◌, map, Option, Some, None, length, if◌then◌else◌}
 use Rattle.std.specs.List.{flat_map}
 use Rattle.dup_names.specs.Grammar.{is_key}

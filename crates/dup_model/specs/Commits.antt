@@ -1,4 +1,4 @@
--- Commits: what they do to a content, and why one is refused.
+-- Commits: what they do to a content, and why one is refused. The law above: `commits_law`.
 use Rattle.dup_names.specs.declared.limits.TheConstants.{MAX_CHANGES}
 use Rattle.std.specs.Prelude.{ℕ, ◌+◌, ◌≤◌, Bool, true, ◌&&◌, not, List, [], ◌∷◌, map, Option, Some, None, is_some, if◌then◌else◌, nat_lt, length, IsTrue, slice_set}
 use Rattle.std.specs.List.{filter, list_all}

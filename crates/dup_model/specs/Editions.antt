@@ -1,4 +1,4 @@
--- Editions, bundles and logs.
+-- Editions, bundles and logs. The law above: `closed_law`.
 use Rattle.std.specs.Prelude.{◌≡◌, ℕ, ◌≤◌, List, Option, Some, length}
 use Rattle.std.specs.List.{fold, flat_map, filter, filter_map, list_any}
 use Rattle.std.specs.Option.{is_none, option_map}

@@ -1,4 +1,4 @@
--- A template embeds earlier templates alone.
+-- A template embeds earlier templates alone. The law above: `good_sites_law`.
 use Rattle.std.specs.Prelude.{ℕ, ◌<◌, List, [], ◌∷◌}
 use Rattle.std.specs.List.{flat_map, AllByRecursion}
 use Rattle.dup_names.specs.Words.{Word}

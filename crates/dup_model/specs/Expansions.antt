@@ -1,4 +1,5 @@
--- What is read of an object at a content, when that is stale, and which expansions are good.
+-- What is read of an object at a content, when that is stale, and which expansions are good. The law above:
+-- `expansions_law`.
 use Rattle.std.specs.Prelude.{◌≡◌, List, map, not, Option, None}
 use Rattle.std.specs.List.{AllByRecursion, find}
 use Rattle.dup_names.specs.declared.object.Item.{Item}

@@ -1,4 +1,4 @@
--- The finest closed sets of changed paths, and which of them is the bundle.
+-- The finest closed sets of changed paths, and which of them is the bundle. The law above: `bundle_law`.
 use Rattle.std.specs.Prelude.{◌≡◌, false, IsTrue}
 use Rattle.std.specs.Ordering.{is_lt}
 use Rattle.dup_names.specs.Order.{text_cmp}

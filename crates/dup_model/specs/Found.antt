@@ -1,4 +1,4 @@
--- What a work has found and what waits in it, and the same in words.
+-- What a work has found and what waits in it, and the same in words. The law above: `jobs_law`.
 use Rattle.std.specs.Prelude.{◌↔◌, List, map, IsTrue}
 use Rattle.std.specs.List.{flat_map}
 use Rattle.dup_names.specs.Order.{obj_cmp}

@@ -1,4 +1,4 @@
--- What the check of a site establishes of each of its contents.
+-- What the check of a site establishes of each of its contents. The law above: `good_sites_law`.
 use Rattle.dup_template.specs.declared.site.Parts.{Parts}
 use Rattle.dup_template.specs.Good.{IsGood}
 use Rattle.dup_model.specs.Content.{Content, IsOf}

@@ -1,4 +1,4 @@
--- What stays the same from one content of a site to another.
+-- What stays the same from one content of a site to another. The law above: `incremental_law`.
 use Rattle.std.specs.Prelude.{◌≡◌, false}
 use Rattle.dup_names.specs.declared.object.Obj.{Obj}
 use Rattle.dup_model.specs.Content.{Content}

@@ -1,4 +1,5 @@
--- Which objects can be expanded, and what of a good site makes all found objects so.
+-- Which objects can be expanded, and what of a good site makes all found objects so. The law above:
+-- `jobs_law`.
 use Rattle.std.specs.Prelude.{◌≡◌, ℕ, Bool, true, ◌&&◌, ◌||◌, List, [], ◌∷◌, Some, None, IsTrue, is_some, nat_lt, length}
 use Rattle.std.specs.List.{list_all}
 use Rattle.std.specs.Option.{is_none}

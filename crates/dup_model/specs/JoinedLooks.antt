@@ -1,4 +1,5 @@
--- A look from the object's skeleton and the looks of what it embeds.
+-- A look from the object's skeleton and the looks of what it embeds. The laws above: `uses_law`,
+-- `incremental_law`.
 use Rattle.std.specs.Prelude.{◌≡◌, ◌||◌, List, [], ◌∷◌, ◌++◌, map, Option, Some, None}
 use Rattle.std.specs.List.{find, flat_map, list_any}
 use Rattle.std.specs.declared.cmp.Ordering.{Ordering}

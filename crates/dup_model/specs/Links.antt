@@ -1,4 +1,4 @@
--- What links give.
+-- What links give. The law above: `shows_law`.
 use Rattle.std.specs.Prelude.{ℕ, List, [], ◌∷◌, ◌++◌, Option, Some, None, is_some, codes, if◌then◌else◌}
 use Rattle.dup_names.specs.Grammar.{is_key}
 use Rattle.dup_names.specs.declared.object.Item.TheVariants as item

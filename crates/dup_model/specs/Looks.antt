@@ -1,4 +1,4 @@
--- What an object uses, and its look.
+-- What an object uses, and its look. The law above: `uses_law`.
 use Rattle.std.specs.Prelude.{ℕ, zero, suc, Bool, true, List, [], ◌∷◌, map, if◌then◌else◌, ◌==◌}
 use Rattle.std.specs.List.{flat_map}
 use Rattle.dup_names.specs.Order.{text_cmp, obj_cmp}

@@ -1,4 +1,4 @@
--- What the statements of one object give, in order, up to each embedding.
+-- What the statements of one object give, in order, up to each embedding. The law above: `shows_law`.
 use Rattle.std.specs.Prelude.{ℕ, List, [], ◌∷◌, map, Option, Some, None, if◌then◌else◌, ◌==◌, length}
 use Rattle.dup_names.specs.Grammar.{is_key}
 use Rattle.dup_names.specs.declared.object.Item.TheVariants as item

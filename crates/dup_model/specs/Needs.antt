@@ -1,4 +1,5 @@
--- Which pages have to change together, from an edition's looks e to a target's looks t.
+-- Which pages have to change together, from an edition's looks e to a target's looks t. The laws above:
+-- `targets_law`, `closed_law`.
 use Rattle.std.specs.Prelude.{◌≡◌, Bool, false, not, ◌&&◌, ◌||◌, Option, Some, None, IsTrue, bytes_eq, if◌then◌else◌}
 use Rattle.std.specs.List.{list_any}
 use Rattle.std.specs.Option.{is_none, is_some, option_eq}

@@ -1,4 +1,4 @@
--- The pages of a content, its target, and the objects that its pages use.
+-- The pages of a content, its target, and the objects that its pages use. The law above: `targets_law`.
 use Rattle.std.specs.Prelude.{ℕ, List, [], ◌∷◌, ◌++◌, map, Option, Some, None}
 use Rattle.std.specs.List.{flat_map}
 use Rattle.std.specs.FinMap as fin

@@ -1,4 +1,4 @@
--- What publishing a set of paths keeps.
+-- What publishing a set of paths keeps. The laws above: `targets_law`, `closed_law`, `bundle_law`.
 use Rattle.std.specs.Prelude.{◌≡◌, ◌↔◌, ◌++◌, List, Some, None, IsTrue, false, length}
 use Rattle.dup_names.specs.Words.{Path}
 use Rattle.dup_template.specs.declared.site.Parts.{Parts}

@@ -1,4 +1,4 @@
--- What a cache holds, and that what is answered from it is true.
+-- What a cache holds, and that what is answered from it is true. The law above: `serving_law`.
 use Rattle.std.specs.Prelude.{◌≡◌, ℕ, ◌≤◌, ◌<◌, Bool, not, List, Some, None, length, take, bytes_eq}
 use Rattle.std.specs.List.{filter, AllByRecursion}
 use Rattle.std.specs.FinMap as fin

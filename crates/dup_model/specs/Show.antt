@@ -1,4 +1,4 @@
--- What an object shows.
+-- What an object shows. The law above: `shows_law`.
 use Rattle.std.specs.Prelude.{ℕ, zero, suc, [], if◌then◌else◌, ◌==◌}
 use Rattle.std.specs.List.{flat_map}
 use Rattle.dup_names.specs.declared.object.Obj.{Obj}

@@ -1,4 +1,4 @@
--- What each kind of statement shows, by an equation each.
+-- What each kind of statement shows, by an equation each. The law above: `shows_law`.
 use Rattle.std.specs.Prelude.{◌≡◌, ℕ, List, [], ◌∷◌, ◌++◌, Option, Some, None, codes, if◌then◌else◌, ◌==◌, length}
 use Rattle.std.specs.List.{flat_map}
 use Rattle.dup_names.specs.Grammar.{is_key}

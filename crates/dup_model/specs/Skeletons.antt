@@ -1,5 +1,5 @@
 -- One object by itself, up to each embedding: what it reads, what it embeds, where its links go, and its
--- skeleton.
+-- skeleton. The law above: `columns_law`.
 use Rattle.std.specs.Prelude.{List, [], ◌∷◌, ◌++◌}
 use Rattle.std.specs.List.{flat_map}
 use Rattle.dup_names.specs.Order.{text_cmp, obj_cmp, item_cmp}

@@ -1,4 +1,5 @@
--- What each version keeps: the site, a table for each kind, and keys that rise.
+-- What each version keeps: the site, a table for each kind, and keys that rise. The law above:
+-- `versions_law`.
 use Rattle.std.specs.Prelude.{◌≡◌, List, [], ◌∷◌, length}
 use Rattle.std.specs.List.{AllByRecursion}
 use Rattle.std.specs.declared.cmp.Ordering.TheVariants.{Less}

@@ -1,4 +1,4 @@
--- What differs from a content a to a content b.
+-- What differs from a content a to a content b. The laws above: `changes_law`, `incremental_law`.
 use Rattle.std.specs.Prelude.{Bool, true, false, not, ◌&&◌, ◌||◌, List, [], ◌∷◌, Option, Some, None, IsTrue, if◌then◌else◌}
 use Rattle.std.specs.List.{Contains, filter, list_any}
 use Rattle.std.specs.Ordering.{is_lt}

@@ -1,4 +1,4 @@
--- What `each` gives: the body for each of its rows.
+-- What `each` gives: the body for each of its rows. The law above: `shows_law`.
 use Rattle.std.specs.Prelude.{ℕ, List, [], ◌∷◌, ◌++◌, map, Option, Some, None}
 use Rattle.std.specs.List.{flat_map}
 use Rattle.dup_names.specs.declared.object.Item.{Item}

@@ -1,4 +1,4 @@
--- What an object uses, in words.
+-- What an object uses, in words. The law above: `uses_law`.
 use Rattle.std.specs.Prelude.{◌≡◌, ◌↔◌, IsTrue}
 use Rattle.std.specs.List.{flat_map, Contains}
 use Rattle.dup_names.specs.declared.object.Obj.{Obj}

@@ -1,4 +1,4 @@
--- Histories of commits, and the versions that they make.
+-- Histories of commits, and the versions that they make. The law above: `versions_law`.
 use Rattle.std.specs.Prelude.{◌≡◌, ℕ, List, take, Option, Some, None, slice_get}
 use Rattle.std.specs.List.{fold}
 use Rattle.std.specs.Option.{option_map}

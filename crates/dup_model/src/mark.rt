@@ -2,7 +2,7 @@ use dup_lists::Listed;
 use dup_names::{Item, Obj, Path};
 
 /// What a statement gives: bytes, an embedding, an item that it reads, or the path of a link.
-#[derive(Drop)]
+#[derive(Debug, Drop, PartialEq, Eq)]
 pub enum Mark {
     Plain(Listed<u8>),
     Hole(Obj),

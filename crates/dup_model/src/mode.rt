@@ -1,5 +1,5 @@
 /// How a node's cache catches up with the editions that it has missed.
-#[derive(Clone, Copy)]
+#[derive(Clone, Copy, Debug, PartialEq, Eq)]
 pub enum Mode {
     /// Each page that is kept becomes the newest edition's; one that isn't there leaves.
     Update,

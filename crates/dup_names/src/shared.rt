@@ -12,7 +12,7 @@ use std::str;
 use std::sync::Arc;
 
 /// A shared string of bytes, of any length.
-#[derive(Drop)]
+#[derive(Debug, Drop)]
 pub struct Bytes {
     bytes: Arc<Vec<u8>, Global>,
 }
@@ -65,7 +65,7 @@ impl Eq for Bytes {
 }
 
 /// A shared text: UTF-8 of at most 4,096 bytes.
-#[derive(Drop, PartialEq, Eq)]
+#[derive(Debug, Drop, PartialEq, Eq)]
 pub struct Text {
     bytes: Bytes,
 }

@@ -6,7 +6,7 @@ use crate::shared::{Bytes, Text};
 use dup_lists::Listed;
 
 /// The value of an item.
-#[derive(Drop, PartialEq, Eq)]
+#[derive(Debug, Drop, PartialEq, Eq)]
 pub enum Value {
     /// Of a field.
     Text(Text),
@@ -17,7 +17,7 @@ pub enum Value {
 }
 
 /// A part of a skeleton.
-#[derive(Drop, PartialEq, Eq)]
+#[derive(Debug, Drop, PartialEq, Eq)]
 pub enum Piece {
     /// Bytes as they are shown.
     Plain(Bytes),
@@ -26,7 +26,7 @@ pub enum Piece {
 }
 
 /// What an object's own statements show, with a hole for each object that they embed.
-#[derive(Drop, PartialEq, Eq)]
+#[derive(Debug, Drop, PartialEq, Eq)]
 pub struct Skeleton {
     /// The parts, in the order in which they are shown.
     pub pieces: Listed<Piece>,
@@ -35,7 +35,7 @@ pub struct Skeleton {
 }
 
 /// What an object shows, with all that it embeds.
-#[derive(Drop, PartialEq, Eq)]
+#[derive(Debug, Drop, PartialEq, Eq)]
 pub struct Look {
     /// The object.
     pub obj: Obj,

@@ -10,7 +10,7 @@ use std::alloc::Global;
 use std::marker::Model;
 
 /// A change of one row: a put of some fields, whose names rise, or a remove.
-#[derive(Drop)]
+#[derive(Debug, Drop)]
 pub struct Change {
     edit: Edit,
 }

@@ -9,7 +9,7 @@ use std::alloc::Global;
 use std::marker::Model;
 
 /// 1 to 256 changes, which are made in order, whole or not at all.
-#[derive(Drop)]
+#[derive(Debug, Drop)]
 pub struct Commit {
     changes: Listed<Change>,
 }

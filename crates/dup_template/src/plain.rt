@@ -11,7 +11,7 @@ use std::marker::Model;
 use std::str;
 
 /// UTF-8 of 1 to 4,096 bytes without the bytes 10 and 13.
-#[derive(Drop, PartialEq, Eq)]
+#[derive(Debug, Drop, PartialEq, Eq)]
 pub struct Plain {
     bytes: Bytes,
 }
@@ -70,7 +70,7 @@ impl Plain {
 }
 
 /// A path of 2 to 120 bytes.
-#[derive(Clone, Copy, PartialEq, Eq)]
+#[derive(Clone, Copy, Debug, PartialEq, Eq)]
 pub struct Prefix {
     path: Path,
 }

@@ -18,14 +18,14 @@ use dup_names::{Name, Path, place_of};
 use std::marker::Model;
 
 /// A kind of records: its name, and the names of its fields in order.
-#[derive(Drop)]
+#[derive(Debug, Drop, PartialEq, Eq)]
 pub struct KindPart {
     pub name: Name,
     pub fields: Listed<Name>,
 }
 
 /// A template: its name, the kind that it is of, where it has one, and its statements.
-#[derive(Drop)]
+#[derive(Debug, Drop, PartialEq, Eq)]
 pub struct TemplatePart {
     pub name: Name,
     pub kind: Option<Name>,
@@ -33,14 +33,14 @@ pub struct TemplatePart {
 }
 
 /// A declaration of pages: one page, or a page `PREFIX/KEY` for each row of the template's kind.
-#[derive(Clone, Copy, PartialEq, Eq)]
+#[derive(Clone, Copy, Debug, PartialEq, Eq)]
 pub enum PageRule {
     Fixed { path: Path, template: Name },
     Family { prefix: Prefix, template: Name },
 }
 
 /// What a site text says, unchecked.
-#[derive(Drop)]
+#[derive(Debug, Drop, PartialEq, Eq)]
 pub struct Parts {
     pub kinds: Listed<KindPart>,
     pub templates: Listed<TemplatePart>,

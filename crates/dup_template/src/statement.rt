@@ -8,7 +8,7 @@ pub type Body = Listed<Statement>;
 
 /// A statement of a template; `via`, `by` and `order` name fields.
 #[cycle(statement)]
-#[derive(Drop)]
+#[derive(Debug, Drop, PartialEq, Eq)]
 pub enum Statement {
     Say(Plain),
     Nl,

@@ -1,4 +1,4 @@
--- The table of commands, by an equation each.
+-- The table of commands, by an equation each. The law above: `commands_law`.
 use Rattle.std.specs.Prelude.{◌≡◌, ℕ, ◌<◌, ◌^◌, true, false, [], ◌∷◌, ◌++◌, codes}
 use Rattle.std.specs.Fmt.{decimal}
 use Rattle.std.specs.List.{list_all}

@@ -1,4 +1,4 @@
--- What the lines of a script command.
+-- What the lines of a script command. The law above: `commands_law`.
 use Rattle.std.specs.Prelude.{◌≡◌, ℕ, Bool, true, false, ◌&&◌, List, [], ◌∷◌, length, Option, Some, None, codes, nat_eq, nat_le, if◌then◌else◌}
 use Rattle.std.specs.List.{list_all}
 use Rattle.dup_names.specs.Grammar.{is_path}

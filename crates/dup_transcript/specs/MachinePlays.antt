@@ -1,4 +1,5 @@
--- A script in the machine: the events that each command stands for, and what is written of their replies.
+-- A script in the machine: the events that each command stands for, and what is written of their replies. The
+-- law above: `plays_law`.
 use Rattle.std.specs.Prelude.{◌≡◌, ℕ, ◌+◌, ◌-◌, false, List, [], ◌∷◌, ◌++◌, None, length}
 use Rattle.std.specs.List.{fold, sum_by}
 use Rattle.std.specs.FinMap as fin

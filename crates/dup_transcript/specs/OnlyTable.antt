@@ -1,4 +1,4 @@
--- The table of commands the other way round: every other line isn't built.
+-- The table of commands the other way round: every other line isn't built. The law above: `commands_law`.
 use Rattle.std.specs.Prelude.{◌≡◌, ◌⊎◌, ℕ, ◌<◌, ◌^◌, true, false, [], ◌∷◌, ◌++◌, codes}
 use Rattle.std.specs.Fmt.{decimal}
 use Rattle.std.specs.List.{list_all}

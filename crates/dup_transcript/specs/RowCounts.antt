@@ -1,4 +1,5 @@
--- Which rows' pages are rendered again from the content that was last settled to the next.
+-- Which rows' pages are rendered again from the content that was last settled to the next. The law above:
+-- `row_counts_law`.
 use Rattle.std.specs.Prelude.{◌≡◌, ℕ, ◌+◌, Bool, true, not, ◌||◌, length, Option, Some, None, is_some}
 use Rattle.std.specs.List.{filter, flat_map, list_all, list_any}
 use Rattle.dup_names.specs.Words.{Word}

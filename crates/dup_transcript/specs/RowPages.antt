@@ -1,4 +1,4 @@
--- The pages of a site of the first form: one for each row.
+-- The pages of a site of the first form: one for each row. The law above: `row_pages_law`.
 use Rattle.std.specs.Prelude.{◌≡◌, true, List, [], ◌∷◌, ◌++◌, map, Some}
 use Rattle.dup_names.specs.Words.{Word, Path}
 use Rattle.dup_names.specs.declared.object.Obj.{Obj}

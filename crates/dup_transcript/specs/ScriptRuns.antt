@@ -1,4 +1,5 @@
--- The run of a script: the events that its commands stand for, and what holds of them.
+-- The run of a script: the events that its commands stand for, and what holds of them. The law above:
+-- `runs_of_scripts_law`.
 use Rattle.std.specs.Prelude.{◌≡◌, ℕ, ◌+◌, true, List, [], ◌∷◌, ◌++◌, Ok}
 use Rattle.dup_names.specs.Lines.{Reading}
 use Rattle.dup_names.specs.Words.{Word}

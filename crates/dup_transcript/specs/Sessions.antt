@@ -1,5 +1,5 @@
 -- What a script makes and is answered without the events of the machine, where the site is of the first form
--- and each commit is one put: the law `sessions_law`.
+-- and each commit is one put. The law above: `sessions_law`.
 use Rattle.std.specs.Prelude.{◌≡◌, ◌↔◌, ℕ, ◌+◌, ◌-◌, Bool, true, false, not, List, [], ◌∷◌, ◌++◌, Option, Some, None, length, nat_le, nat_eq, if◌then◌else◌}
 use Rattle.std.specs.List.{AllByRecursion, fold, list_any}
 use Rattle.std.specs.FinMap as fin

@@ -1,4 +1,5 @@
--- The transcript of an input: what `play`, `check` and `render` write for it, and how they end.
+-- The transcript of an input: what `play`, `check` and `render` write for it, and how they end. The law
+-- above: `transcripts_law`.
 use Rattle.std.specs.Prelude.{◌≡◌, ℕ, Bool, true, false, List, [], ◌∷◌, ◌++◌, codes, if◌then◌else◌, nat_eq, Result, Ok, Err}
 use Rattle.std.specs.Fmt.{decimal}
 use Rattle.dup_names.specs.Lines.{Reading, Whole, Next, LongLine, LongInput, line}

@@ -1,4 +1,4 @@
--- Lines that are written one after another, and read again.
+-- Lines that are written one after another, and read again. The law above: `lines_law`.
 use Rattle.std.specs.Prelude.{◌≡◌, ◌≤◌, false, List, [], ◌∷◌, length}
 use Rattle.std.specs.List.{AllByRecursion, flat_map}
 use Rattle.std.specs.Str.Lines.{strip_carriage_return}

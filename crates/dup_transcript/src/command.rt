@@ -3,7 +3,7 @@ use dup_names::Path;
 
 /// What a line of a script asks, where `C` is the form that commits have. What stands for a line that
 /// isn't built writes `not built`.
-#[derive(Drop)]
+#[derive(Debug, Drop, PartialEq, Eq)]
 pub enum Command<C> {
     Blank,
     Commit(C),

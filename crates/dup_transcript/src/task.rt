@@ -1,5 +1,5 @@
 /// What the program is asked to do.
-#[derive(Clone, Copy)]
+#[derive(Clone, Copy, Debug, PartialEq, Eq)]
 pub enum Task {
     /// To play a script over a site.
     Play,
