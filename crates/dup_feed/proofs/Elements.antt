@@ -9,8 +9,8 @@ use Rattle.dup_model.specs.declared.edit.Edit.{Edit}
 use Rattle.serde_json.specs.View.{view, items_view}
 use Rattle.serde_json.specs.declared.value.Value.{Value}
 use Rattle.dup_names.specs.declared.limits.TheConstants.{MAX_CHANGES}
-use Rattle.dup_feed.specs.declared.refusal.FeedRefusal.{FeedRefusal}
-use Rattle.dup_feed.specs.declared.refusal.FeedRefusal.TheVariants.{Shape, TooMany}
+use Rattle.dup_model.specs.declared.feed_refusal.FeedRefusal.{FeedRefusal}
+use Rattle.dup_model.specs.declared.feed_refusal.FeedRefusal.TheVariants.{Shape, TooMany}
 use Rattle.dup_feed.specs.Feed.{Said, put_first, each_by, each_from, change_of, count_items, array_says, Refuses, Reads}
 
 -- what was read, before what the others say

@@ -14,8 +14,8 @@ use Rattle.serde_json.specs.Find.{get, as_str, as_array, as_object}
 use Rattle.serde_json.specs.Read.{read}
 use Rattle.serde_json.specs.View.{view}
 use Rattle.serde_json.specs.declared.value.Value.{Value}
-use Rattle.dup_feed.specs.declared.refusal.FeedRefusal.{FeedRefusal}
-use Rattle.dup_feed.specs.declared.refusal.FeedRefusal.TheVariants.{NotJson, Shape, TooMany, NoMemory}
+use Rattle.dup_model.specs.declared.feed_refusal.FeedRefusal.{FeedRefusal}
+use Rattle.dup_model.specs.declared.feed_refusal.FeedRefusal.TheVariants.{NotJson, Shape, TooMany, NoMemory}
 
 -- the word, where it is of the grammar
 abbrev pub where_so : (Word → Bool) → Word → Option Word

@@ -3,10 +3,9 @@
 
 mod change;
 mod reading;
-mod refusal;
 
+pub use dup_model::FeedRefusal;
 pub use reading::read_commit;
-pub use refusal::FeedRefusal;
 
 #[cfg(test)]
 mod tests;

@@ -6,7 +6,7 @@ ghost use Rattle.dup_feed.specs.Feed as feed;
 ghost use Rattle.dup_feed.specs.Feed.{feed_says, Reads};
 
 use crate::change::{change, count};
-use crate::refusal::FeedRefusal;
+use dup_model::FeedRefusal;
 use dup_names::MAX_CHANGES;
 use dup_records::{Change, Commit};
 use serde_json::Value;

@@ -1,6 +1,6 @@
 -- What the sources and sinks in memory hold, and which of their calls fail.
-use Rattle.std.specs.Prelude.{◌≡◌, ◌+◌, ◌-◌, ◌^◌, ◌&&◌, ◌||◌, ℕ, Bool, List, drop, length, min, nat_eq}
-use Rattle.std.specs.Prelude.{nat_lt, nat_le, refl}
+use Rattle.std.specs.Prelude.{◌≡◌, ◌+◌, ◌-◌, ◌^◌, ◌||◌, ℕ, Bool, List, drop, length, min, nat_eq}
+use Rattle.std.specs.Prelude.{nat_le, refl}
 use Rattle.std.specs.List.{list_any}
 use Rattle.std.proofs.Common.{◌∙◌}
 use Rattle.dup_io.specs.declared.memory.MemorySource.{MemorySource}

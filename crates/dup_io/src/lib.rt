@@ -8,7 +8,7 @@ mod memory_line;
 mod standard;
 
 pub use ends::{Duplex, Failed, Sink, Source, put_all};
-pub use lines::{Line, LineFault, Lines};
+pub use lines::{Line, LineFault, Lines, PIECE_BYTES};
 pub use memory::{MemorySink, MemorySource};
 pub use memory_line::MemoryLine;
 pub use standard::{StdSink, StdSource};

@@ -7,11 +7,15 @@ ghost use Rattle.dup_io.specs.Readings.{GivesLine, IsReading};
 ghost use Rattle.dup_names.specs.Lines.{LongInput, LongLine, Whole, max_input};
 ghost use Rattle.std.specs.Str.Lines.{strip_carriage_return};
 ghost use Rattle.dup_io.specs.declared.lines.LineFault.TheVariants.{NoMemory, ReadFault};
+ghost use Rattle.dup_io.specs.declared.lines.TheConstants.{PIECE_BYTES};
 
 use crate::ends::{Failed, Source};
 use dup_names::{MAX_INPUT_BYTES, MAX_LINE_BYTES};
 use std::alloc::{AllocFailed, Global};
 use thiserror::Error;
+
+/// The most bytes that `Lines` reads of its source at once.
+pub const PIECE_BYTES: usize = 4096;
 
 /// A line of a source, without what ended it.
 #[derive(Drop)]
@@ -65,17 +69,17 @@ fn strip_carriage_return(bytes: &mut Vec<u8>)
     }
 }
 
-/// The lines of a source. It reads the source in pieces of 4,096 bytes, and keeps one line in memory at most.
+/// The lines of a source. It reads the source in pieces of `PIECE_BYTES` at most, and keeps one line in memory at most.
 #[derive(Drop)]
 pub struct Lines<'s, S> {
     source: &'s mut S,
-    buffer: [u8; 4096],
+    buffer: [u8; PIECE_BYTES],
     start: usize,
     end: usize,
     number: u64,
     taken: u64,
     fault: Option<LineFault>,
-    ghost in_range: { (start ≤ end) × (end ≤ 4096) × (number ≤ taken) × (taken ≤ max_input) },
+    ghost in_range: { (start ≤ end) × (end ≤ PIECE_BYTES) × (number ≤ taken) × (taken ≤ max_input) },
 }
 
 impl<'s, S: Source> Lines<'s, S> {
@@ -93,7 +97,7 @@ impl<'s, S: Source> Lines<'s, S> {
     {
         Lines {
             source,
-            buffer: [0; 4096],
+            buffer: [0; PIECE_BYTES],
             start: 0,
             end: 0,
             number: 0,

@@ -1,7 +1,8 @@
 ghost use Rattle.std.specs.Prelude.{◌<◌};
 
 use crate::{
-    Duplex, Failed, LineFault, Lines, MemoryLine, MemorySink, MemorySource, Sink, Source, put_all,
+    Duplex, Failed, LineFault, Lines, MemoryLine, MemorySink, MemorySource, PIECE_BYTES, Sink,
+    Source, put_all,
 };
 use std::alloc::Global;
 use std::process::Abort;
@@ -38,7 +39,7 @@ fn lines_are(
 
 #[test]
 fn a_text_has_its_lines(rt: HostRuntime) -> Result<(), Fail> {
-    for piece in [1, 7, 4096] {
+    for piece in [1, 7, PIECE_BYTES] {
         lines_are(&rt, b"", piece, &[], &[], Ok(()))?;
         lines_are(&rt, b"\n", piece, &[], &[b""], Ok(()))?;
         lines_are(&rt, b"a\r\n\nb\r", piece, &[], &[b"a", b"", b"b\r"], Ok(()))?;

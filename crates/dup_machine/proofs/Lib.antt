@@ -1,9 +1,15 @@
 pub mod WorldSteps
 pub mod Levels
+pub mod LastReply
+pub mod Least
 pub mod PressSteps
 pub mod Machine
 pub mod Runs
 pub mod Settling
+pub mod NothingDone
 pub mod Publishing
 pub mod Ending
 pub mod Pending
+pub mod InOrder
+pub mod Growing
+pub mod Closing

@@ -1,52 +1,34 @@
 -- Publishing comes to an end.
-use Rattle.std.proofs.Common.{◌≡◌, ℕ, zero, suc, ◌≤◌, inl, inr, Bool, true, false, not, cond, ◌&&◌, List, [], ◌∷◌, length, take, drop, refl, sym, ap, subst, ◌∙◌, arith}
-use Rattle.std.specs.Prelude.{Option, Some, None, if◌then◌else◌}
+use Rattle.std.proofs.Common.{◌≡◌, ℕ, zero, suc, ◌+◌, ◌<◌, ◌≤◌, inl, inr, Bool, true, false, not, cond, ◌&&◌, List, [], ◌∷◌, length, take, drop, refl, sym, ap, subst, ◌∙◌, arith}
+use Rattle.std.specs.Prelude.{Option, Some, None}
 use Rattle.std.specs.Option.{option_eq}
 use Rattle.std.specs.List.{fold, filter}
-use Rattle.std.proofs.lemmas.Bool.{true≢false, or_cases, and_parts, and_from}
-use Rattle.std.specs.Cmp.Lexicographic.{pointwise, nat_list_eq_equiv, lists_equiv}
-use Rattle.std.proofs.lemmas.Slice.Eq.{bytes_eq-Decides}
+use Rattle.std.proofs.lemmas.Bool.{true≢false, or_cases, and_parts}
 use Rattle.std.specs.Ordering.{eq_by_cmp}
 use Rattle.dup_names.specs.Order.{text_cmp}
-use Rattle.dup_names.specs.declared.object.Obj.{Obj}
-use Rattle.dup_names.specs.declared.value.Look.{Look}
 use Rattle.dup_template.specs.declared.site.Parts.{Parts}
-use Rattle.dup_names.specs.Words.{Word, Path}
+use Rattle.dup_names.specs.Words.{Path}
 use Rattle.dup_model.specs.Pages.{target_at}
 use Rattle.dup_model.specs.Journal.{Limits}
 use Rattle.dup_model.specs.Pages.{Target}
-use Rattle.dup_model.specs.Needs.{changed, same_look, same_use}
+use Rattle.dup_model.specs.Needs.{changed, same_look}
 use Rattle.dup_model.specs.Editions.{Bundle, edition, history, looks, target_looks, bundle_of, has}
 use Rattle.dup_model.specs.Bundles.{bundle, changed_paths}
-use Rattle.dup_machine.specs.World.{World}
+use Rattle.dup_machine.specs.World.{Told, World, told}
+use Rattle.dup_machine.specs.World.Told.{NothingChanged}
 use Rattle.dup_machine.specs.World.Event.{Publish}
 use Rattle.dup_machine.specs.Press.{target_of, published_by}
 use Rattle.dup_machine.specs.Presses.{version_of}
 use Rattle.dup_machine.specs.Run.{step}
-use Rattle.dup_machine.specs.Settle.{publishes, IsPublished, PublishEnds}
+use Rattle.dup_machine.specs.Until.{LastTold}
+use Rattle.dup_machine.specs.Settle.{AllPublished, IsPublished, PublishEnds, publishing}
+use Rattle.dup_machine.proofs.LastReply.{told_once}
 use Rattle.dup_model.proofs.Absorb.{looks_after_bundle}
 use Rattle.dup_model.proofs.Reached.{tie_same}
 use Rattle.dup_model.proofs.ChangedPaths.{all_changed}
 use Rattle.dup_model.proofs.BundleFacts.{bundle_first, bundle_none}
 use Rattle.dup_model.proofs.Push.{edition_snoc}
-use Rattle.dup_names.proofs.ObjectOrder.{obj_itself}
-
-uses_itself : (us : List (Obj × Word)) → pointwise same_use us us ≡ true
-uses_itself [] = refl
-uses_itself (u ∷ us) = and_from _ _ (and_from _ _ (obj_itself u.0) ((bytes_eq-Decides u.1 u.1).1 refl)) (uses_itself us)
-
-pub look_itself : (l : Look) → same_look l l ≡ true
-look_itself l =
-    and_from _ _ (and_from _ _ (and_from _ _ (obj_itself l.obj) ((bytes_eq-Decides l.bytes l.bytes).1 refl)) (uses_itself l.uses)) ((lists_equiv nat_list_eq_equiv).refl l.links)
-
-option_itself : (o : Option Look) → option_eq same_look o o ≡ true
-option_itself None = refl
-option_itself (Some l) = look_itself l
-
--- what is published isn't changed any more
-changed_mixed : (inside : Bool) (a b : Option Look) → not (option_eq same_look (if inside then b else a) b) ≡ (not inside && not (option_eq same_look a b))
-changed_mixed true a b = ap not (option_itself b)
-changed_mixed false a b = refl
+use Rattle.dup_model.proofs.SameLooks.{changed_mixed}
 
 count : (Path → Bool) → List Path → ℕ
 count f ps = length (filter f ps)
@@ -126,27 +108,55 @@ module _ (site : Parts) (limits : Limits) (w : World) where
   has_count : (f : Path → Bool) (ps : List Path) (p : Path) → has ps p ≡ true → f p ≡ true → 1 ≤ count f ps
   has_count f ps p inside is = omega (arith, fewer f (λ q. false) (λ q h. absurd (true≢false (sym h))) ps p inside is refl)
 
-  ends : (n : ℕ) (ps : List Path) (v : World) → IsSamePress v → ((q : Path) → Changed v q ≡ true → has ps q ≡ true) → count (Changed v) ps ≤ n →
-      (k : ℕ) × IsPublished site w (fold (step site limits) v (publishes k))
+  -- publishing from this state until nothing is changed
+  abbrev Published : World → Type 0
+  Published v = (k : ℕ) × AllPublished site limits v k × IsPublished site w (fold (step site limits) v (publishing k))
+
+  nothing_left : (v : World) → IsSamePress v → bundle (edition v.log) t ≡ None → Published v
+  nothing_left v s is =
+      let goes : step site limits v Publish ≡ told NothingChanged v =
+      (λ i. published_by (target_same v s i) (version_of v.target) (bundle (edition v.log) (target_same v s i)) v)
+      ∙ ap (λ o. published_by t (version_of v.target) o v) is in (
+        0,
+        ((v.replies, ap (λ u. u.replies) goes), λ i less. absurd (omega (arith, less))),
+        subst (λ u. IsPublished site w u) (sym goes) (record { work = s.work; target = s.target; commits = s.commits; none = bundle_none (edition v.log) t is }),
+      )
+
+  one_more : (v : World) (s : IsSamePress v) (paths : List Path) (chosen : bundle (edition v.log) t ≡ Some paths) → Published (next v s paths chosen) → Published v
+  one_more v s paths chosen rest = (
+    suc rest.0,
+    (subst (λ u. LastTold (fold (step site limits) u (publishing rest.0)) NothingChanged) (sym (goes v s paths chosen)) rest.1.0, before),
+    subst (λ u. IsPublished site w (fold (step site limits) u (publishing rest.0))) (sym (goes v s paths chosen)) rest.2,
+  )
+    where
+      before : (i : ℕ) → i < suc rest.0 → LastTold (fold (step site limits) v (publishing i)) NothingChanged → ⊥
+      before zero less tells =
+          let b : Bundle = bundle_of t (version_of v.target) (drop (length (history v.log)) (take (version_of v.target) v.commits)) paths in
+          let e : Told.Published (length v.log + 1) (version_of v.target) (length b.puts) (length b.drops) ≡ NothingChanged =
+          told_once (step site limits v Publish) (Told.Published (length v.log + 1) (version_of v.target) (length b.puts) (length b.drops)) NothingChanged
+          (v.replies, ap (λ u. u.replies) (goes v s paths chosen)) tells in
+          absurd (cc)
+      before (suc i) less tells =
+          rest.1.1 i (omega (arith, less)) (subst (λ u. LastTold (fold (step site limits) u (publishing i)) NothingChanged) (goes v s paths chosen) tells)
+
+  ends : (n : ℕ) (ps : List Path) (v : World) → IsSamePress v → ((q : Path) → Changed v q ≡ true → has ps q ≡ true) → count (Changed v) ps ≤ n → Published v
   ends zero ps v s all small = by_bundle (bundle (edition v.log) t) refl
     where
-      by_bundle : (o : Option (List Path)) → bundle (edition v.log) t ≡ o → (k : ℕ) × IsPublished site w (fold (step site limits) v (publishes k))
-      by_bundle None is = (0, record { work = s.work; target = s.target; commits = s.commits; none = bundle_none (edition v.log) t is })
+      by_bundle : (o : Option (List Path)) → bundle (edition v.log) t ≡ o → Published v
+      by_bundle None is = nothing_left v s is
       by_bundle (Some paths) is =
           let p : (p : Path) × (Changed v p ≡ true) × (has paths p ≡ true) = first v s paths is in
           absurd (omega (arith, small, has_count (Changed v) ps p.0 (all p.0 p.1) p.1))
   ends (suc n) ps v s all small = by_bundle (λ u. ends n ps u) (bundle (edition v.log) t) refl
     where
-      by_bundle : ((u : World) → IsSamePress u → ((q : Path) → Changed u q ≡ true → has ps q ≡ true) → count (Changed u) ps ≤ n → (k : ℕ) × IsPublished site w (fold (step site limits) u (publishes k))) →
-          (o : Option (List Path)) → bundle (edition v.log) t ≡ o → (k : ℕ) × IsPublished site w (fold (step site limits) v (publishes k))
-      by_bundle onward None is = (0, record { work = s.work; target = s.target; commits = s.commits; none = bundle_none (edition v.log) t is })
+      by_bundle : ((u : World) → IsSamePress u → ((q : Path) → Changed u q ≡ true → has ps q ≡ true) → count (Changed u) ps ≤ n → Published u) →
+          (o : Option (List Path)) → bundle (edition v.log) t ≡ o → Published v
+      by_bundle onward None is = nothing_left v s is
       by_bundle onward (Some paths) is =
           let p : (p : Path) × (Changed v p ≡ true) × (has paths p ≡ true) = first v s paths is in
-          let rest : (k : ℕ) × IsPublished site w (fold (step site limits) (next v s paths is) (publishes k)) =
-          onward (next v s paths is) (record { work = s.work; target = s.target; commits = s.commits })
+          one_more v s paths is (onward (next v s paths is) (record { work = s.work; target = s.target; commits = s.commits })
           (λ q h. all q (still v s paths is q h))
-          (omega (arith, small, fewer (Changed v) (Changed (next v s paths is)) (still v s paths is) ps p.0 (all p.0 p.1) p.1 (gone v s paths is))) in
-          (suc rest.0, subst (λ u. IsPublished site w (fold (step site limits) u (publishes rest.0))) (sym (goes v s paths is)) rest.1)
+          (omega (arith, small, fewer (Changed v) (Changed (next v s paths is)) (still v s paths is) ps p.0 (all p.0 p.1) p.1 (gone v s paths is))))
 
 pub publish_ends : PublishEnds
 publish_ends site limits w =

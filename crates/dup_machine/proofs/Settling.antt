@@ -1,8 +1,8 @@
 -- What `settle` reports.
 use Rattle.std.proofs.Common.{◌≡◌, ℕ, zero, suc, ◌+◌, ◌<◌, ◌≤◌, inl, inr, Bool, true, false, not, cond, ◌||◌, ◌&&◌, List, [], ◌∷◌, ◌++◌, length, take, refl, sym, ap, subst, ◌∙◌, arith}
 use Rattle.std.specs.Prelude.{Option, Some, None, min, ◌==◌, ◌-◌, ◌^◌}
-use Rattle.std.specs.Option.{option_map, unwrap_or}
-use Rattle.std.specs.List.{list_all, list_any, fold, filter, flat_map, slice_get, AllByRecursion}
+use Rattle.std.specs.Option.{option_map}
+use Rattle.std.specs.List.{list_all, fold, filter}
 use Rattle.std.specs.Ordering.{nat_cmp, eq_by_cmp}
 use Rattle.std.specs.Cmp.{nat_cmp_total}
 use Rattle.std.specs.FinMap as fin
@@ -12,21 +12,18 @@ use Rattle.std.proofs.lemmas.List.Sums.{fold-append}
 use Rattle.std.proofs.Math.Seq.{take-length}
 use Rattle.dup_names.specs.Order.{obj_cmp}
 use Rattle.dup_names.specs.declared.object.Obj.{Obj}
-use Rattle.dup_names.specs.declared.object.Item.{Item}
 use Rattle.dup_template.specs.declared.site.Parts.{Parts}
 use Rattle.dup_names.specs.Words.{in_order}
-use Rattle.dup_model.specs.Frame.{frame_of}
-use Rattle.dup_model.specs.Content.{Content, IsOf, start, body_at, value}
-use Rattle.dup_model.specs.Names.{template_at}
-use Rattle.dup_model.specs.Commits.{Commit}
+use Rattle.dup_model.specs.Content.{Content}
 use Rattle.dup_model.specs.Versions.{content, version, target_content}
 use Rattle.dup_model.specs.Journal.{Limits}
 use Rattle.dup_model.specs.Pages.{live}
 use Rattle.dup_names.specs.Objects.{same_obj, is_in}
-use Rattle.dup_model.specs.Touched.{without, differs, touched, affected, renewed, expanded, joined}
+use Rattle.dup_model.specs.Touched.{without, touched, affected, renewed, expanded, joined}
 use Rattle.dup_machine.specs.World.{World, Work, Slot, Event, Told, told}
 use Rattle.dup_machine.specs.World.Event.{Begin, Hand, Put, Join, Finish}
-use Rattle.dup_machine.specs.World.Told.{Unasked, Finished, Begins, NoneWaits, SlotEmpty}
+use Rattle.dup_machine.specs.World.Joined.{Done, Level}
+use Rattle.dup_machine.specs.World.Told.{Unasked, Finished, Begins, Handed, Joins, NoneWaits, SlotEmpty}
 use Rattle.dup_machine.specs.World.Begun.{Nothing, Same}
 use Rattle.dup_machine.specs.World.Ended.{Report}
 use Rattle.dup_model.specs.Found.{found, waiting}
@@ -36,18 +33,28 @@ use Rattle.dup_machine.proofs.WorldSteps.{begun_next, begun_open, put_asked}
 use Rattle.dup_machine.specs.Press.{joined as join_step}
 use Rattle.dup_machine.specs.Press.{at, opened, begun, handed_to, handed, kept, put_from, joined_by, finished_by, finished}
 use Rattle.dup_machine.specs.Run.{step}
-use Rattle.dup_model.specs.Embeddings.{EmbedsEarlier, embedded}
-use Rattle.dup_machine.specs.Settle.{hands, joins, settling, counts_of, begun_work, IsSettled, SettleReports, SettleResumes, NothingIsDone}
+use Rattle.dup_model.specs.Embeddings.{EmbedsEarlier}
+use Rattle.dup_machine.specs.Until.{FirstTold, LastTold}
+use Rattle.dup_machine.specs.Settle.{IsWorked, handing, hands, joining, joins, settling, counts_of, begun_work, IsSettled, SettleReports, SettleResumes}
 use Rattle.dup_model.proofs.Reached.{or_right}
-use Rattle.dup_model.proofs.Histories.{content_of}
 use Rattle.dup_names.proofs.ObjectOrder.{obj_itself}
 use Rattle.dup_model.proofs.Earlier.{in_ordered}
 use Rattle.dup_model.proofs.Ordering.{any_append}
 use Rattle.dup_model.proofs.Objects.{once_filter, in_filter, filter_same, one_less, some_less}
-use Rattle.dup_model.specs.Skeletons.{embeds, reads}
-use Rattle.dup_model.specs.Looks.{uses}
-use Rattle.dup_model.proofs.Finds.{value_itself, once_found, once_live, found_live, found_is_live, done_unless_waiting, waiting_parts, notes_hold}
+use Rattle.dup_model.specs.Skeletons.{embeds}
+use Rattle.dup_model.proofs.Finds.{once_found, once_live, found_live, found_is_live, done_unless_waiting, waiting_parts, notes_hold}
+use Rattle.dup_machine.proofs.LastReply.{told_once}
+use Rattle.dup_machine.proofs.Least.{least}
 use Rattle.dup_machine.proofs.Levels.{next_in, some_level}
+
+-- no object is among these
+abbrev no_object : List Obj → Bool
+no_object [] = true
+no_object (o ∷ os) = false
+
+no_object_is : (os : List Obj) → no_object os ≡ true → os ≡ []
+no_object_is [] h = refl
+no_object_is (o ∷ os) h = absurd (true≢false (sym h))
 
 slot_itself : eq_by_cmp nat_cmp 0 0 ≡ true
 slot_itself = refl
@@ -156,6 +163,7 @@ module _ (site : Parts) (limits : Limits) (w0 : World) where
     pub then : Work
     pub stands : Stands w0 w then
     pub calm : total ≤ k → waiting end then.done ≡ []
+    pub busy : k < total → waiting end then.done ≡ [] → ⊥
     pub looked : then.looked ≡ work.looked
     pub once : then.once ≡ work.once
     pub joined : then.joined ≡ work.joined
@@ -182,12 +190,24 @@ module _ (site : Parts) (limits : Limits) (w0 : World) where
   none_next None = refl
   none_next (Some o) = refl
 
+  -- where nothing waits, a hand is told so
+  pub hand_last : (w : World) (work : Work) → Stands w0 w work → waiting end work.done ≡ [] → step site limits w (Hand 0) ≡ told NoneWaits w
+  hand_last w work s calm =
+      (λ i. handed site 0 (s.has i) (s.slot i) w)
+      ∙ ap (λ o. handed_to site 0 work o w) (ap (λ c. next_of work.last_handed (waiting c work.done)) (at_last site limits w0 w work s) ∙ ap (next_of work.last_handed) calm ∙ none_next work.last_handed)
+
+  -- where one waits, an object is handed
+  pub hand_one : (w : World) (work : Work) → Stands w0 w work → (x : Obj) (xs : List Obj) → waiting end work.done ≡ x ∷ xs → (o : Obj) × LastTold (step site limits w (Hand 0)) (Handed o)
+  hand_one w work s x xs is =
+      let next : (o : Obj) × (next_of work.last_handed (x ∷ xs) ≡ Some o) × (is_in (x ∷ xs) o ≡ true) = next_in work.last_handed x xs in
+      let goes : step site limits w (Hand 0) ≡ handed_to site 0 work (Some next.0) w =
+      hand_step site limits w0 w work s next.0 (ap (next_of work.last_handed) is ∙ next.1) (ap (λ l. is_in l next.0) is ∙ next.2) in
+      (next.0, (w.replies, ap (λ v. v.replies) goes))
+
   -- where nothing waits, a hand and a put change nothing
   hand_nothing : (w : World) (work : Work) → Stands w0 w work → waiting end work.done ≡ [] → Stands w0 (step site limits (step site limits w (Hand 0)) (Put 0)) work
   hand_nothing w work s calm =
-      let first : step site limits w (Hand 0) ≡ told NoneWaits w =
-      (λ i. handed site 0 (s.has i) (s.slot i) w)
-      ∙ ap (λ o. handed_to site 0 work o w) (ap (λ c. next_of work.last_handed (waiting c work.done)) (at_last site limits w0 w work s) ∙ ap (next_of work.last_handed) calm ∙ none_next work.last_handed) in
+      let first : step site limits w (Hand 0) ≡ told NoneWaits w = hand_last w work s calm in
       let goes : step site limits (step site limits w (Hand 0)) (Put 0) ≡ told (SlotEmpty 0) (told NoneWaits w) =
       ap (λ v. step site limits v (Put 0)) first ∙ ap (λ o. put_from site 0 o (told NoneWaits w)) s.slot in
       subst (λ v. Stands w0 v work) (sym goes) (record { commits = s.commits; target = s.target; log = s.log; nodes = s.nodes; has = s.has; slot = s.slot; here = s.here })
@@ -198,6 +218,7 @@ module _ (site : Parts) (limits : Limits) (w0 : World) where
     then = work;
     stands = s;
     calm = λ few. by_waiting few (waiting end work.done) refl;
+    busy = λ more calm. omega (arith, more, left, all_done work.done calm);
     looked = refl;
     once = refl;
     joined = refl;
@@ -219,6 +240,7 @@ module _ (site : Parts) (limits : Limits) (w0 : World) where
             then = rest.then;
             stands = rest.stands;
             calm = λ few. rest.calm (omega (arith, left, all_done work.done is));
+            busy = λ more calm. omega (arith, more, left, all_done work.done is);
             looked = rest.looked;
             once = rest.once;
             joined = rest.joined;
@@ -237,6 +259,7 @@ module _ (site : Parts) (limits : Limits) (w0 : World) where
             then = rest.then;
             stands = rest.stands;
             calm = λ few. rest.calm (omega (arith, fewer, few));
+            busy = λ more calm. rest.busy (omega (arith, fewer, more)) calm;
             looked = rest.looked;
             once = rest.once;
             joined = rest.joined;
@@ -304,6 +327,16 @@ module _ (site : Parts) (limits : Limits) (w0 : World) where
       ∙ some_less (found end work.done) (once_found end work.done) (level end work)
       (once_filter (λ o. list_all (is_in work.looked) (embeds end o)) (unjoined end work) (once_filter (λ o. not (is_in work.looked o)) (found end work.done) (once_found end work.done))) (is_in work.looked)
       (λ x h. unjoined_of work x (level_parts work x h))
+
+  -- what a join is told, where nothing waits
+  pub join_tells : (w : World) (work : Work) → Stands w0 w work → waiting end work.done ≡ [] → (us : List Obj) → unjoined end work ≡ us →
+      step site limits w Join ≡ joined_by site work [] us (level end work) w
+  join_tells w work s calm us is =
+      let there : at site w work.version ≡ end = at_last site limits w0 w work s in
+      (λ i. join_step site (s.has i) w) ∙ (λ i. joined_by site work (waiting (there i) work.done) (unjoined (there i) work) (level (there i) work) w) ∙ (λ i. joined_by site work (calm i) (is i) (level end work) w)
+
+  pub still_stands : (w : World) (work : Work) (reply : Told) → Stands w0 w work → Stands w0 (told reply w) work
+  still_stands w work reply s = record { commits = s.commits; target = s.target; log = s.log; nodes = s.nodes; has = s.has; slot = s.slot; here = s.here }
 
   module _ (earlier : EmbedsEarlier end) where
     joins_any : (m : ℕ) (looked0 once0 : List Obj) (w : World) (work : Work) → Stands w0 w work → waiting end work.done ≡ [] → AreJoined looked0 once0 work →
@@ -471,45 +504,75 @@ module _ (site : Parts) (limits : Limits) (w0 : World) where
     to_hand = length (without (is_in work.done) (live end))
 
     pub works : ℕ → ℕ → List Event
-    works k m = hands k ++ (joins m ++ Finish ∷ [])
+    works k m = handing k ++ (joining m ++ Finish ∷ [])
 
-    pub ran : (k m : ℕ) → Steps site limits w0 w (works k m) ≡ step site limits (Steps site limits w0 (Steps site limits w0 w (hands k)) (joins m)) Finish
+    -- the states behind the last hand, and behind the last join
+    abbrev pub handed_all : ℕ → World
+    handed_all k = step site limits (Steps site limits w0 w (hands k)) (Hand 0)
+
+    abbrev pub joined_all : ℕ → ℕ → World
+    joined_all k m = step site limits (Steps site limits w0 (handed_all k) (joins m)) Join
+
+    pub handing_ends : (k : ℕ) → Steps site limits w0 w (handing k) ≡ handed_all k
+    handing_ends k = fold-append (step site limits) w (hands k) (Hand 0 ∷ [])
+
+    pub joining_ends : (v : World) (m : ℕ) → Steps site limits w0 v (joining m) ≡ step site limits (Steps site limits w0 v (joins m)) Join
+    joining_ends v m = fold-append (step site limits) v (joins m) (Join ∷ [])
+
+    pub ran : (k m : ℕ) → Steps site limits w0 w (works k m) ≡ step site limits (joined_all k m) Finish
     unfolding works
     ran k m =
-        fold-append (step site limits) w (hands k) (joins m ++ Finish ∷ [])
-        ∙ fold-append (step site limits) (Steps site limits w0 w (hands k)) (joins m) (Finish ∷ [])
+        fold-append (step site limits) w (handing k) (joining m ++ Finish ∷ [])
+        ∙ ap (λ v. Steps site limits w0 v (joining m ++ Finish ∷ [])) (handing_ends k)
+        ∙ fold-append (step site limits) (handed_all k) (joining m) (Finish ∷ [])
+        ∙ ap (λ v. step site limits v Finish) (joining_ends (handed_all k) m)
 
     pub handed_by : (k : ℕ) → AreHanded (Steps site limits w0 w (hands k)) work k to_hand
     handed_by k = hands_any k to_hand w work s refl
 
+    pub stands_handed : (k : ℕ) → waiting end (handed_by k).then.done ≡ [] → Stands w0 (handed_all k) (handed_by k).then
+    stands_handed k calm =
+        subst (λ v. Stands w0 v (handed_by k).then) (sym (hand_last (Steps site limits w0 w (hands k)) (handed_by k).then (handed_by k).stands calm))
+        (still_stands (Steps site limits w0 w (hands k)) (handed_by k).then NoneWaits (handed_by k).stands)
+
     pub joined_from : (k m : ℕ) → waiting end (handed_by k).then.done ≡ [] →
-        AllJoined (Steps site limits w0 (Steps site limits w0 w (hands k)) (joins m)) (handed_by k).then work.looked work.once m (length (unjoined end (handed_by k).then))
+        AllJoined (Steps site limits w0 (handed_all k) (joins m)) (handed_by k).then work.looked work.once m (length (unjoined end (handed_by k).then))
     joined_from k m calm =
-        joins_any earlier m work.looked work.once (Steps site limits w0 w (hands k)) (handed_by k).then (handed_by k).stands calm (record {
+        joins_any earlier m work.looked work.once (handed_all k) (handed_by k).then (stands_handed k calm) calm (record {
           now = [];
           looked = λ x. ap (λ l. is_in l x) (handed_by k).looked;
           once = λ x. ap (λ l. is_in l x) (handed_by k).once;
           new = λ x inside. absurd (true≢false (sym inside));
         })
 
+    pub join_last : (k m : ℕ) (calm : waiting end (handed_by k).then.done ≡ []) → unjoined end (joined_from k m calm).then ≡ [] →
+        joined_all k m ≡ told (Joins Done) (Steps site limits w0 (handed_all k) (joins m))
+    join_last k m calm none = join_tells (Steps site limits w0 (handed_all k) (joins m)) (joined_from k m calm).then (joined_from k m calm).stands (joined_from k m calm).calm [] none
+
+    pub stands_joined : (k m : ℕ) (calm : waiting end (handed_by k).then.done ≡ []) → unjoined end (joined_from k m calm).then ≡ [] → Stands w0 (joined_all k m) (joined_from k m calm).then
+    stands_joined k m calm none =
+        subst (λ v. Stands w0 v (joined_from k m calm).then) (sym (join_last k m calm none))
+        (still_stands (Steps site limits w0 (handed_all k) (joins m)) (joined_from k m calm).then (Joins Done) (joined_from k m calm).stands)
+
     pub ended : (k m : ℕ) (calm : waiting end (handed_by k).then.done ≡ []) → unjoined end (joined_from k m calm).then ≡ [] → Ends (Steps site limits w0 w (works k m)) work
     ended k m calm none =
         let h : AreHanded (Steps site limits w0 w (hands k)) work k to_hand = handed_by k in
-        let j : AllJoined (Steps site limits w0 (Steps site limits w0 w (hands k)) (joins m)) (handed_by k).then work.looked work.once m (length (unjoined end (handed_by k).then)) = joined_from k m calm in
-        let v : World = Steps site limits w0 (Steps site limits w0 w (hands k)) (joins m) in
+        let j : AllJoined (Steps site limits w0 (handed_all k) (joins m)) (handed_by k).then work.looked work.once m (length (unjoined end (handed_by k).then)) = joined_from k m calm in
+        let v : World = joined_all k m in
+        let stands : Stands w0 (joined_all k m) (joined_from k m calm).then = stands_joined k m calm none in
         let is_live : found end h.then.done ≡ live end = found_is_live end h.then.done (done_unless_waiting end h.then.done calm) in
-        subst (λ u. Ends u work) (sym (ran k m ∙ finish_step v j.then j.stands j.calm none)) (record {
+        subst (λ u. Ends u work) (sym (ran k m ∙ finish_step v j.then stands j.calm none)) (record {
           idle = refl;
-          target = ap Some j.stands.here;
-          commits = j.stands.commits;
-          log = j.stands.log;
-          nodes = j.stands.nodes;
-          slot = j.stands.slot;
+          target = ap Some stands.here;
+          commits = stands.commits;
+          log = stands.log;
+          nodes = stands.nodes;
+          slot = stands.slot;
           front = v.replies;
           expanded = j.then.expanded;
           joined = j.then.joined;
           report = λ i. v.replies ++ Finished (Report (record {
-            version = j.stands.here i;
+            version = stands.here i;
             expanded = j.then.expanded;
             joined = j.then.joined;
             kept = length (kept_left work.looked work.once j.then j.calm none j.parts i);
@@ -518,22 +581,69 @@ module _ (site : Parts) (limits : Limits) (w0 : World) where
           all_joined = λ n count. j.joined none n (h.joined ∙ count) ∙ ap (λ k. more 0 (n + k)) (λ i. length (without (is_in (h.looked i)) (is_live i)));
         })
 
-    pub ends_from : (m : ℕ) × Ends (Steps site limits w0 w (works (length (without (is_in work.done) (live end))) m)) work
+    -- a hand that is told that none waits finds none
+    pub hand_isnt : (k : ℕ) (x : Obj) (xs : List Obj) → waiting end (handed_by k).then.done ≡ x ∷ xs → LastTold (Steps site limits w0 w (handing k)) NoneWaits → ⊥
+    hand_isnt k x xs is tells =
+        let one : (o : Obj) × LastTold (handed_all k) (Handed o) = hand_one (Steps site limits w0 w (hands k)) (handed_by k).then (handed_by k).stands x xs is in
+        let e : Handed one.0 ≡ NoneWaits = told_once (handed_all k) (Handed one.0) NoneWaits one.1 (subst (λ v. LastTold v NoneWaits) (handing_ends k) tells) in
+        absurd (cc)
+
+    -- a join that is told that all is done finds all done
+    pub join_isnt : (k m : ℕ) (calm : waiting end (handed_by k).then.done ≡ []) (u : Obj) (us : List Obj) → unjoined end (joined_from k m calm).then ≡ u ∷ us →
+        LastTold (Steps site limits w0 (Steps site limits w0 w (handing k)) (joining m)) (Joins Done) → ⊥
+    join_isnt k m calm u us is tells =
+        let j : AllJoined (Steps site limits w0 (handed_all k) (joins m)) (handed_by k).then work.looked work.once m (length (unjoined end (handed_by k).then)) = joined_from k m calm in
+        let v : World = Steps site limits w0 (handed_all k) (joins m) in
+        let goes : joined_all k m ≡ joined_by site j.then [] (u ∷ us) (level end j.then) v = join_tells v j.then j.stands j.calm (u ∷ us) is in
+        let e : Joins (Level (length (level end j.then))) ≡ Joins Done =
+        told_once (joined_all k m) (Joins (Level (length (level end j.then)))) (Joins Done) (v.replies, ap (λ u. u.replies) goes)
+        (subst (λ u. LastTold u (Joins Done)) (ap (λ u. Steps site limits w0 u (joining m)) (handing_ends k) ∙ joining_ends (handed_all k) m) tells) in
+        absurd (cc)
+
+    -- the last hand is the first that finds none waiting
+    pub first_hand : FirstTold site limits w handing NoneWaits to_hand
+    first_hand =
+        let h : AreHanded (Steps site limits w0 w (hands to_hand)) work to_hand to_hand = handed_by to_hand in
+        let goes : Steps site limits w0 w (handing to_hand) ≡ told NoneWaits (Steps site limits w0 w (hands to_hand)) =
+        handing_ends to_hand ∙ hand_last (Steps site limits w0 w (hands to_hand)) h.then h.stands (h.calm (let few : to_hand ≤ to_hand = omega arith in few)) in
+        (((Steps site limits w0 w (hands to_hand)).replies, ap (λ v. v.replies) goes), before)
+      where
+        before : (i : ℕ) → i < to_hand → LastTold (Steps site limits w0 w (handing i)) NoneWaits → ⊥
+        before i less tells = by_waiting (waiting end (handed_by i).then.done) refl
+          where
+            by_waiting : (os : List Obj) → waiting end (handed_by i).then.done ≡ os → ⊥
+            by_waiting [] is = (handed_by i).busy less is
+            by_waiting (x ∷ xs) is = hand_isnt i x xs is tells
+
+    pub ends_from : (m : ℕ) × IsWorked site limits w to_hand m × Ends (Steps site limits w0 w (works to_hand m)) work
     ends_from =
         let calm : waiting end (handed_by to_hand).then.done ≡ [] = (handed_by to_hand).calm (let h : to_hand ≤ to_hand = omega arith in h) in
-        let m : ℕ = length (unjoined end (handed_by to_hand).then) in
-        let none : unjoined end (joined_from to_hand m calm).then ≡ [] = (joined_from to_hand m calm).none (let h : m ≤ m = omega arith in h) in
-        (m, ended to_hand m calm none)
+        let most : ℕ = length (unjoined end (handed_by to_hand).then) in
+        let none : unjoined end (joined_from to_hand most calm).then ≡ [] = (joined_from to_hand most calm).none (let h : most ≤ most = omega arith in h) in
+        let m : (m : ℕ) × (no_object (unjoined end (joined_from to_hand m calm).then) ≡ true) × ((i : ℕ) → i < m → no_object (unjoined end (joined_from to_hand i calm).then) ≡ false) =
+        least (λ i. no_object (unjoined end (joined_from to_hand i calm).then)) most (ap no_object none) in
+        let last : unjoined end (joined_from to_hand m.0 calm).then ≡ [] = no_object_is (unjoined end (joined_from to_hand m.0 calm).then) m.1 in
+        let goes : Steps site limits w0 (Steps site limits w0 w (handing to_hand)) (joining m.0) ≡ told (Joins Done) (Steps site limits w0 (handed_all to_hand) (joins m.0)) =
+        ap (λ u. Steps site limits w0 u (joining m.0)) (handing_ends to_hand) ∙ joining_ends (handed_all to_hand) m.0 ∙ join_last to_hand m.0 calm last in (
+          m.0,
+          record {
+            handed = first_hand;
+            joined = (
+              ((Steps site limits w0 (handed_all to_hand) (joins m.0)).replies, ap (λ u. u.replies) goes),
+              λ i less tells. not_done calm i (m.2 i less) tells (unjoined end (joined_from to_hand i calm).then) refl,
+            );
+          },
+          ended to_hand m.0 calm last,
+        )
+      where
+        not_done : (calm : waiting end (handed_by to_hand).then.done ≡ []) (i : ℕ) → no_object (unjoined end (joined_from to_hand i calm).then) ≡ false →
+            LastTold (Steps site limits w0 (Steps site limits w0 w (handing to_hand)) (joining i)) (Joins Done) → (us : List Obj) → unjoined end (joined_from to_hand i calm).then ≡ us → ⊥
+        not_done calm i some tells [] is = true≢false (sym (ap no_object is) ∙ some)
+        not_done calm i some tells (u ∷ us) is = join_isnt to_hand i calm u us is tells
 
-    pub works_are : (k m : ℕ) → works k m ≡ hands k ++ (joins m ++ Finish ∷ [])
+    pub works_are : (k m : ℕ) → works k m ≡ handing k ++ (joining m ++ Finish ∷ [])
     unfolding works
     works_are k m = refl
-
-pub embeds_earlier : (site : Parts) (commits : List Commit) → EmbedsEarlier (start site) → EmbedsEarlier (content site commits)
-embeds_earlier site commits earlier =
-    let is : IsOf site (content site commits) = content_of site commits in
-    λ n. subst (λ f. AllByRecursion (λ name. template_at f name < n) (flat_map embedded (body_at (content site commits) n))) (sym is.frame)
-    (subst (λ l. AllByRecursion (λ name. template_at (frame_of site) name < n) (flat_map embedded (unwrap_or (slice_get l n) []))) (sym is.bodies) (earlier n))
 
 plus_more : (j n : ℕ) → more 0 (j + n) ≡ more j n
 plus_more j n = omega arith
@@ -541,20 +651,22 @@ plus_more j n = omega arith
 small_more : (j : ℕ) → j ≤ 2 ^ 64 - 1 → j ≡ more 0 j
 small_more j h = omega (arith, h)
 
-module _ (site : Parts) (limits : Limits) (w : World) (earlier : EmbedsEarlier (start site)) (empty : fin.get w.slots 0 ≡ None) where
+module _ (site : Parts) (limits : Limits) (w : World) (earlier : EmbedsEarlier (content site w.commits)) (empty : fin.get w.slots 0 ≡ None) where
   abbrev pub close : Content
   close = content site w.commits
 
   -- the whole of it, from a work that `begin` leaves open
   settled_from : (v : World) (work : Work) → step site limits w Begin ≡ v → Stands w v work →
-      (m : ℕ) × Ends site limits w (fold (step site limits) w (settling (length (without (is_in work.done) (live close))) m)) work
+      (m : ℕ) × IsWorked site limits (step site limits w Begin) (length (without (is_in work.done) (live close))) m
+      × Ends site limits w (fold (step site limits) w (settling (length (without (is_in work.done) (live close))) m)) work
   settled_from v work is s =
-      let e : (m : ℕ) × Ends site limits w (fold (step site limits) v (works site limits w (embeds_earlier site w.commits earlier) v work s (length (without (is_in work.done) (live close))) m)) work =
-      ends_from site limits w (embeds_earlier site w.commits earlier) v work s in (
+      let e : (m : ℕ) × IsWorked site limits v (length (without (is_in work.done) (live close))) m × Ends site limits w (fold (step site limits) v (works site limits w earlier v work s (length (without (is_in work.done) (live close))) m)) work =
+      ends_from site limits w earlier v work s in (
         e.0,
+        subst (λ u. IsWorked site limits u (length (without (is_in work.done) (live close))) e.0) (sym is) e.1,
         subst (λ u. Ends site limits w u work)
-            ((λ i. fold (step site limits) (sym is i) (works_are site limits w (embeds_earlier site w.commits earlier) v work s (length (without (is_in work.done) (live close))) e.0 i)))
-            e.1,
+            ((λ i. fold (step site limits) (sym is i) (works_are site limits w earlier v work s (length (without (is_in work.done) (live close))) e.0 i)))
+            e.2,
       )
 
   -- a work that is open already
@@ -566,7 +678,8 @@ module _ (site : Parts) (limits : Limits) (w : World) (earlier : EmbedsEarlier (
       by_test false is = record { commits = refl; target = refl; log = refl; nodes = refl; has = refl; slot = empty; here = refl }
 
   pub resumed : (work : Work) → w.work ≡ Some work →
-      (m : ℕ) × Ends site limits w (fold (step site limits) w (settling (length (without (is_in (begun_work site w work).done) (live close))) m)) (begun_work site w work)
+      (m : ℕ) × IsWorked site limits (step site limits w Begin) (length (without (is_in (begun_work site w work).done) (live close))) m
+      × Ends site limits w (fold (step site limits) w (settling (length (without (is_in (begun_work site w work).done) (live close))) m)) (begun_work site w work)
   resumed work has = settled_from (step site limits w Begin) (begun_work site w work) refl (begin_open work has)
 
   -- a work that was opened, and has come to its end
@@ -579,13 +692,15 @@ module _ (site : Parts) (limits : Limits) (w : World) (earlier : EmbedsEarlier (
     log = e.log;
     nodes = e.nodes;
     slot = e.slot;
-    front = e.front;
-    report = e.report ∙ (λ i. e.front ++ Finished (Report (record {
-      version = length w.commits;
-      expanded = (e.all_expanded 0 b.expanded ∙ ap (more 0) (plus_zero (length (without (is_in work.done) (live close)))) ∙ ap (λ l. more 0 (length l)) b.done) i;
-      joined = (e.all_joined 0 b.joined ∙ ap (more 0) (plus_zero (length (without (is_in work.looked) (live close)))) ∙ ap (λ l. more 0 (length l)) b.looked) i;
-      kept = length ((ap (λ o. filter (λ x. is_in work.looked x && not (is_in o x)) (live close)) b.once ∙ old_left b.looked) i);
-    })) ∷ []);
+    report = (
+      e.front,
+      e.report ∙ (λ i. e.front ++ Finished (Report (record {
+        version = length w.commits;
+        expanded = (e.all_expanded 0 b.expanded ∙ ap (more 0) (plus_zero (length (without (is_in work.done) (live close)))) ∙ ap (λ l. more 0 (length l)) b.done) i;
+        joined = (e.all_joined 0 b.joined ∙ ap (more 0) (plus_zero (length (without (is_in work.looked) (live close)))) ∙ ap (λ l. more 0 (length l)) b.looked) i;
+        kept = length ((ap (λ o. filter (λ x. is_in work.looked x && not (is_in o x)) (live close)) b.once ∙ old_left b.looked) i);
+      })) ∷ []),
+    );
   }
     where
       -- what had a look is what isn't to be joined
@@ -605,14 +720,17 @@ module _ (site : Parts) (limits : Limits) (w : World) (earlier : EmbedsEarlier (
           ∙ ap not (sym (in_filter (λ o. not (is_in work.looked o)) (live close) x) ∙ ap (λ l. is_in l x) is))
 
   pub fresh : w.work ≡ None → (w.target ≡ Some (length w.commits) → ⊥) →
-      (m : ℕ) × IsSettled w (counts_of (target_content site w.commits w.target) close (length w.commits)) (fold (step site limits) w (settling (length (expanded (target_content site w.commits w.target) close)) m))
+      (m : ℕ) × IsWorked site limits (step site limits w Begin) (length (expanded (target_content site w.commits w.target) close)) m
+      × IsSettled w (counts_of (target_content site w.commits w.target) close (length w.commits)) (fold (step site limits) w (settling (length (expanded (target_content site w.commits w.target) close)) m))
   fresh idle other =
       let b : (work : Work) × AreBegun site limits w (step site limits w Begin) work = begins site limits w idle empty w.target refl other in
-      let e : (m : ℕ) × Ends site limits w (fold (step site limits) w (settling (length (without (is_in b.0.done) (live close))) m)) b.0 =
+      let e : (m : ℕ) × IsWorked site limits (step site limits w Begin) (length (without (is_in b.0.done) (live close))) m
+      × Ends site limits w (fold (step site limits) w (settling (length (without (is_in b.0.done) (live close))) m)) b.0 =
       settled_from (step site limits w Begin) b.0 refl b.1.stands in (
         e.0,
+        subst (λ k. IsWorked site limits (step site limits w Begin) k e.0) (ap length b.1.done) e.1,
         subst (λ k. IsSettled w (counts_of (target_content site w.commits w.target) close (length w.commits)) (fold (step site limits) w (settling k e.0))) (ap length b.1.done)
-            (settled_as (fold (step site limits) w (settling (length (without (is_in b.0.done) (live close))) e.0)) b.0 b.1 e.1),
+            (settled_as (fold (step site limits) w (settling (length (without (is_in b.0.done) (live close))) e.0)) b.0 b.1 e.2),
       )
 
 pub settle_reports : SettleReports
@@ -620,28 +738,32 @@ settle_reports site limits w earlier idle other empty = fresh site limits w earl
 
 pub settle_resumes : SettleResumes
 settle_resumes site limits w work earlier has empty expanded_fits joined_fits =
-    let e : (m : ℕ) × Ends site limits w (fold (step site limits) w (settling (length (without (is_in (begun_work site w work).done) (live (content site w.commits)))) m)) (begun_work site w work) =
+    let e : (m : ℕ) × IsWorked site limits (step site limits w Begin) (length (without (is_in (begun_work site w work).done) (live (content site w.commits)))) m
+    × Ends site limits w (fold (step site limits) w (settling (length (without (is_in (begun_work site w work).done) (live (content site w.commits)))) m)) (begun_work site w work) =
     resumed site limits w earlier empty work has in
     let counts : ((begun_work site w work).expanded ≡ work.expanded) × ((begun_work site w work).joined ≡ work.joined) = same_counts (work.version == length w.commits) in (
       e.0,
+      e.1,
       record {
-        idle = e.1.idle;
-        target = e.1.target;
-        commits = e.1.commits;
-        log = e.1.log;
-        nodes = e.1.nodes;
-        slot = e.1.slot;
-        front = e.1.front;
-        report = e.1.report ∙ (λ i. e.1.front ++ Finished (Report (record {
-          version = length w.commits;
-          expanded = (e.1.all_expanded work.expanded (counts.0 ∙ small_more work.expanded expanded_fits)
-              ∙ plus_more work.expanded (length (without (is_in (begun_work site w work).done) (live (content site w.commits))))
-              ∙ ap (λ n. more n (length (without (is_in (begun_work site w work).done) (live (content site w.commits))))) (sym counts.0)) i;
-          joined = (e.1.all_joined work.joined (counts.1 ∙ small_more work.joined joined_fits)
-              ∙ plus_more work.joined (length (without (is_in (begun_work site w work).looked) (live (content site w.commits))))
-              ∙ ap (λ n. more n (length (without (is_in (begun_work site w work).looked) (live (content site w.commits))))) (sym counts.1)) i;
-          kept = length (filter (λ o. is_in (begun_work site w work).looked o && not (is_in (begun_work site w work).once o)) (live (content site w.commits)));
-        })) ∷ []);
+        idle = e.2.idle;
+        target = e.2.target;
+        commits = e.2.commits;
+        log = e.2.log;
+        nodes = e.2.nodes;
+        slot = e.2.slot;
+        report = (
+          e.2.front,
+          e.2.report ∙ (λ i. e.2.front ++ Finished (Report (record {
+            version = length w.commits;
+            expanded = (e.2.all_expanded work.expanded (counts.0 ∙ small_more work.expanded expanded_fits)
+                ∙ plus_more work.expanded (length (without (is_in (begun_work site w work).done) (live (content site w.commits))))
+                ∙ ap (λ n. more n (length (without (is_in (begun_work site w work).done) (live (content site w.commits))))) (sym counts.0)) i;
+            joined = (e.2.all_joined work.joined (counts.1 ∙ small_more work.joined joined_fits)
+                ∙ plus_more work.joined (length (without (is_in (begun_work site w work).looked) (live (content site w.commits))))
+                ∙ ap (λ n. more n (length (without (is_in (begun_work site w work).looked) (live (content site w.commits))))) (sym counts.1)) i;
+            kept = length (filter (λ o. is_in (begun_work site w work).looked o && not (is_in (begun_work site w work).once o)) (live (content site w.commits)));
+          })) ∷ []),
+        );
       },
     )
   where
@@ -650,28 +772,3 @@ settle_resumes site limits w work earlier has empty expanded_fits joined_fits =
         × ((cond b work (moved (at site w work.version) (length w.commits) (content site w.commits) work)).joined ≡ work.joined)
     same_counts true = (refl, refl)
     same_counts false = (refl, refl)
-
--- over a target of the last version
-differs_not : (c : Content) (its : List Item) → list_any (differs c c) its ≡ false
-differs_not c [] = refl
-differs_not c (it ∷ its) = rw (differs_not c its) (ap (λ b. not b || false) (value_itself (value c it)))
-
-untouched : (c : Content) (os : List Obj) → list_any (touched c c) os ≡ false
-untouched c [] = refl
-untouched c (o ∷ os) = rw (untouched c os) (ap (λ b. b || false) (differs_not c (reads c o)))
-
-none_renewed : (c : Content) (test : Content → Content → Obj → Bool) → ((o : Obj) → test c c o ≡ false) → (os : List Obj) → ((o : Obj) → is_in os o ≡ true → is_in (live c) o ≡ true) →
-    filter (λ o. not (is_in (live c) o) || test c c o) os ≡ []
-none_renewed c test never [] inside = refl
-none_renewed c test never (o ∷ os) inside =
-    rw (inside o (or_left _ _ (obj_itself o)), never o) (none_renewed c test never os (λ x h. inside x (or_right _ _ h)))
-
-pub nothing_is_done : NothingIsDone
-nothing_is_done c v =
-    let none : expanded (Some c) c ≡ [] = none_renewed c touched (λ o. differs_not c (reads c o)) (live c) (λ o h. h) in
-    let also : joined (Some c) c ≡ [] = none_renewed c affected (λ o. untouched c (uses c o)) (live c) (λ o h. h) in
-    λ i. record { version = v; expanded = more 0 (length (none i)); joined = more 0 (length (also i)); kept = length ((ap (λ l. without (is_in l) (live c)) also ∙ all_of (live c)) i) }
-  where
-    all_of : (os : List Obj) → without (is_in []) os ≡ os
-    all_of [] = refl
-    all_of (o ∷ os) = ap (λ l. o ∷ l) (all_of os)

@@ -3,7 +3,7 @@ use Rattle.std.proofs.Common.{◌≡◌, ℕ, Bool, true, false, cond, List, Opt
 use Rattle.std.specs.Prelude.{◌==◌}
 use Rattle.dup_names.specs.declared.object.Item.{Item}
 use Rattle.dup_names.specs.declared.object.Obj.{Obj}
-use Rattle.dup_names.specs.declared.value.Value.{Value}
+use Rattle.dup_template.specs.declared.value.Value.{Value}
 use Rattle.dup_template.specs.declared.site.Parts.{Parts}
 use Rattle.dup_model.specs.Expansions.{stale}
 use Rattle.dup_model.specs.Found.{waiting}

@@ -2,7 +2,7 @@
 use Rattle.std.specs.Prelude.{ℕ, ◌==◌, List, [], ◌∷◌, Option, Some, None, length, if◌then◌else◌}
 use Rattle.dup_names.specs.declared.object.Item.{Item}
 use Rattle.dup_names.specs.declared.object.Obj.{Obj}
-use Rattle.dup_names.specs.declared.value.Value.{Value}
+use Rattle.dup_template.specs.declared.value.Value.{Value}
 use Rattle.dup_model.specs.Content.{Content, value}
 use Rattle.dup_model.specs.Expansions.{stale}
 use Rattle.dup_model.specs.Found.{waiting}

@@ -5,7 +5,11 @@ pub mod Presses
 pub mod Press
 pub mod Nodes
 pub mod Run
+pub mod Until
 pub mod Status
 pub mod Headline
 pub mod Settle
 pub mod Timely
+pub mod Reached
+pub mod FoundGrows
+pub mod Closed

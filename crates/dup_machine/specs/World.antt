@@ -4,7 +4,7 @@ use Rattle.std.specs.Ordering.{nat_cmp}
 use Rattle.std.specs.FinMap as fin
 use Rattle.dup_names.specs.declared.object.Obj.{Obj}
 use Rattle.dup_names.specs.declared.object.Item.{Item}
-use Rattle.dup_names.specs.declared.value.Value.{Value}
+use Rattle.dup_template.specs.declared.value.Value.{Value}
 use Rattle.dup_names.specs.Words.{Path}
 use Rattle.dup_model.specs.Commits.{Commit, Refusal}
 use Rattle.dup_model.specs.Editions.{Bundle, Page}

@@ -6,4 +6,4 @@
 
 mod machine_laws;
 
-pub use machine_laws::{headline, runs_law, settle_law, status_law};
+pub use machine_laws::{closed_law, found_law, headline, runs_law, settle_law, status_law};

@@ -1,3 +1,5 @@
+ghost use Rattle.dup_machine.specs.Closed.{ClosedAtFirst, ClosedOnceDone, ClosedOnceJoined, ClosedOnceMoved, ClosedLive, LevelLeaves};
+ghost use Rattle.dup_machine.specs.FoundGrows.{FoundIsReached, FoundGrows};
 ghost use Rattle.dup_machine.specs.Headline.{Headline, EachEventIsAnswered, LogGrows};
 ghost use Rattle.dup_machine.specs.Timely.{PressesAreTimely};
 ghost use Rattle.dup_machine.specs.Status.{PendingIsTold};
@@ -27,4 +29,20 @@ pub fn settle_law()
     ensures resumed { SettleResumes }
     ensures publish { PublishEnds }
     ensures ends { SettleEnds }
+{}
+
+/// What a work finds is what is reached from the pages, and how it grows once one more object is done.
+pub fn found_law()
+    ensures reached { FoundIsReached }
+    ensures grows { FoundGrows }
+{}
+
+/// What has a look has a skeleton, and what it embeds has looks too.
+pub fn closed_law()
+    ensures first { ClosedAtFirst }
+    ensures done { ClosedOnceDone }
+    ensures joined { ClosedOnceJoined }
+    ensures moved { ClosedOnceMoved }
+    ensures live { ClosedLive }
+    ensures leaves { LevelLeaves }
 {}

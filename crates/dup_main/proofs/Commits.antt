@@ -9,18 +9,23 @@ use Rattle.dup_names.specs.Order.{text_cmp}
 use Rattle.dup_names.specs.Words.{Word}
 use Rattle.dup_template.specs.declared.site.Parts.{Parts}
 use Rattle.dup_model.specs.declared.edit.Edit.{Edit}
-use Rattle.dup_model.specs.declared.edit.Edit.TheVariants.{Put, Remove}
+use Rattle.dup_model.specs.declared.edit.Edit.TheVariants.{Put, Remove, Replace}
 use Rattle.dup_model.specs.Content.{Content, Table, Entry, IsOf, table}
 use Rattle.dup_model.specs.Names.{kind_at}
 use Rattle.std.specs.Prelude.{codes}
 use Rattle.std.specs.Fmt.{decimal}
 use Rattle.std.specs.Option.{option_map}
 use Rattle.std.proofs.Common.{length-append}
+use Rattle.std.specs.List.{AllByRecursion}
 use Rattle.std.proofs.lemmas.List.{take-append-le}
 use Rattle.std.proofs.lemmas.Grind.{fold-append}
 use Rattle.dup_model.specs.Content.{start}
 use Rattle.dup_model.specs.Commits.{Commit, Refusal, edited, after, refusal, put_row, put_row_at}
 use Rattle.dup_model.specs.Journal.{unless_refused}
+use Rattle.dup_model.specs.Tables.{IsOfRow}
+use Rattle.dup_model.proofs.Histories.{after_bodies, after_frame}
+use Rattle.dup_transcript.specs.Commands.{is_one_put}
+use Rattle.dup_transcript.proofs.SettledPages.{of_one_put}
 use Rattle.dup_model.specs.Versions.{content, version}
 use Rattle.dup_transcript.specs.declared.command.Command.TheVariants as command
 use Rattle.dup_main.specs.declared.session.Session.{Session as Kept}
@@ -28,13 +33,8 @@ use Rattle.dup_main.specs.Kept.{Acts, IsMade, IsReady, Keeps}
 use Rattle.dup_transcript.specs.Sessions.{commit_text}
 use Rattle.dup_names.specs.Lines.{line}
 
-edited_is_of : (site : Parts) (c : Content) (e : Edit) → IsOf site c → IsOf site (edited c e)
-edited_is_of site c (Put name key fields) is = record { frame = is.frame; bodies = is.bodies }
-edited_is_of site c (Remove name key) is = record { frame = is.frame; bodies = is.bodies }
-
-pub after_is_of : (site : Parts) (c : Content) (commit : Commit) → IsOf site c → IsOf site (after c commit)
-after_is_of site c [] is = is
-after_is_of site c (e ∷ es) is = after_is_of site (edited c e) es (edited_is_of site c e is)
+pub after_is_of : (site : Parts) (c : Content) (commit : Commit) → AllByRecursion IsOfRow commit → IsOf site c → IsOf site (after c commit)
+after_is_of site c commit rows is = record { frame = after_frame c commit ∙ is.frame; bodies = after_bodies c commit rows ∙ is.bodies }
 
 put_row_length : (new : Entry) (rows : Table) → length (put_row new rows) ≤ length rows + 1
 put_row_length new [] = omega arith
@@ -69,6 +69,7 @@ filter_first c k p z = subst (λ (j : ℕ). length (filter p (table c j)) ≤ le
 edited_rows : (c : Content) (e : Edit) → length (table (edited c e) 0) ≤ length (table c 0) + 1
 edited_rows c (Put name key fields) = first_table c.tables (kind_at c.frame name) _ _ (omega arith) (λ z. put_first c (kind_at c.frame name) _ z)
 edited_rows c (Remove name key) = first_table c.tables (kind_at c.frame name) _ _ (omega arith) (λ z. filter_first c (kind_at c.frame name) _ z)
+edited_rows c (Replace name body) = omega arith
 
 pub after_rows : (c : Content) (commit : Commit) → length (table (after c commit) 0) ≤ length (table c 0) + length commit
 after_rows c [] = omega arith
@@ -78,12 +79,18 @@ after_rows c (e ∷ es) = omega (arith, edited_rows c e, after_rows (edited c e)
 abbrev pub committed_in : Kept → Content → Kept
 committed_in r new = record r { content = new; version = r.version + 1 }
 
-pub ready_after : (r : Kept) (new : Content) (commit : Commit) → IsReady r → new ≡ after r.content commit → length commit ≡ 1 → IsReady (committed_in r new)
-ready_after r new commit ready is one = record {
+length_one : (commit : Commit) → is_one_put commit ≡ true → length commit ≡ 1
+length_one [] is = absurd (cc)
+length_one (e ∷ []) is = refl
+length_one (d ∷ e ∷ es) is = absurd (cc)
+
+pub ready_after : (r : Kept) (new : Content) (commit : Commit) → IsReady r → new ≡ after r.content commit → is_one_put commit ≡ true → IsReady (committed_in r new)
+ready_after r new commit ready is put = record {
   form = ready.form;
-  of_site = subst (λ (c : Content). IsOf r.site.value c) (sym is) (after_is_of r.site.value r.content commit ready.of_site);
+  of_site = subst (λ (c : Content). IsOf r.site.value c) (sym is) (after_is_of r.site.value r.content commit (of_one_put commit put) ready.of_site);
+  settled_of = ready.settled_of;
   simple = ready.simple;
-  rows = let h : length (table new 0) ≡ length (table (after r.content commit) 0) = ap (λ (c : Content). length (table c 0)) is in omega (arith, h, after_rows r.content commit, one, ready.rows);
+  rows = let h : length (table new 0) ≡ length (table (after r.content commit) 0) = ap (λ (c : Content). length (table c 0)) is in omega (arith, h, after_rows r.content commit, length_one commit put, ready.rows);
 }
 
 -- a version that was made stays the same

@@ -13,7 +13,7 @@ use Rattle.dup_transcript.specs.Sessions.{Published, with_pages, with_page}
 
 pub page_is : (site : Parts) (c : Content) (key path bytes : Word) (o : Obj) → path ≡ row_path site key → o ≡ row_object key → bytes ≡ show c o
     → (path, plain_look o bytes) ≡ row_page site c key
-page_is site c key path bytes o at is shows = rw (at, shows, is) refl
+page_is site c key path bytes o at is shows = λ i. (at i, plain_look (is i) ((shows ∙ ap (show c) is) i))
 
 pub one_more : (site : Parts) (c : Content) (v i : ℕ) (rows : Table) (e : Entry) (q all : Published) → i < length rows → e ≡ get_or rows i e
     → with_pages v (pages_from site c (drop i rows)) q ≡ all → with_pages v (pages_from site c (drop (i + 1) rows)) (with_page v q (row_page site c e.0)) ≡ all

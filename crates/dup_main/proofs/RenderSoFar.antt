@@ -9,10 +9,11 @@ use Rattle.dup_names.specs.Words.{Word}
 use Rattle.dup_template.specs.declared.site.Parts.{Parts}
 use Rattle.dup_transcript.specs.Commands.{Command}
 use Rattle.dup_model.specs.Commits.{Commit}
-use Rattle.dup_model.specs.Content.{Content, start}
+use Rattle.dup_model.specs.Content.{Content}
 use Rattle.dup_model.specs.Versions.{content}
-use Rattle.dup_main.specs.Commands.{command_of, message_command}
-use Rattle.dup_main.specs.Taken.{Takes}
+use Rattle.dup_main.specs.Commands.{command_of}
+use Rattle.dup_main.specs.Taken.{HasTaken, Takes}
+use Rattle.dup_main.specs.declared.render_lines.Rendering.{Rendering}
 use Rattle.dup_transcript.specs.RenderedPages.{accepted, last_content, rendered_pages, render_answer, render_answers}
 use Rattle.dup_main.specs.declared.stop.Stop.{Stop}
 use Rattle.dup_main.specs.Stops.{WritesScript}
@@ -21,16 +22,16 @@ use Rattle.dup_main.proofs.CutScripts.{Reaches}
 
 -- of the lines, some were answered by done, and the rest goes on from these commits
 pub record IsRendered (site : Parts) (all rest : Reading) (commits : List Commit) (before now : ℕ) (done : Word) : Type 0 where
-  pub goes : rendered message_command site [] before all ≡ done ++ rendered message_command site commits now rest
+  pub goes : rendered command_of site [] before all ≡ done ++ rendered command_of site commits now rest
   pub ends : ending all ≡ ending rest
 
-abbrev pub SoFar : Parts → Option Reading → Option Reading → Option Word → Option Word → ℕ → ℕ → Content → Type 0
+abbrev pub SoFar : Parts → Option Reading → Option Reading → Option Word → Option Word → ℕ → ℕ → Rendering → Type 0
 SoFar site None rest old new before now c = Unit {0}
 SoFar site (Some all) None old new before now c = ⊥
 SoFar site (Some all) (Some rest) old new before now c =
-    (commits : List Commit) × (c ≡ content site commits) × ((done : Word) × Appends old new done × IsRendered site all rest commits before now done)
+    (commits : List Commit) × HasTaken site commits c × ((done : Word) × Appends old new done × IsRendered site all rest commits before now done)
 
-pub begun : (site : Parts) (r : Option Reading) (old : Option Word) (n : ℕ) (c : Content) → c ≡ start site → SoFar site r r old old n n c
+pub begun : (site : Parts) (r : Option Reading) (old : Option Word) (n : ℕ) (c : Rendering) → HasTaken site [] c → SoFar site r r old old n n c
 begun site None old n c is = tt
 begun site (Some r) old n c is = ([], is, ([], Appends-nil old, record { goes = refl; ends = refl }))
 
@@ -41,12 +42,12 @@ one_more site all rest commits before now done text p =
     let next = accepted site commits (command_of text) in
     record {
       goes = p.goes
-          ∙ ap (λ (w : Word). done ++ w) (append_assoc said (render_answers site next (now + 1) (commands message_command rest)) (render_end (last_content site next (commands message_command rest)) rest))
-          ∙ sym (append_assoc done said (rendered message_command site next (now + 1) rest));
+          ∙ ap (λ (w : Word). done ++ w) (append_assoc said (render_answers site next (now + 1) (commands command_of rest)) (render_end (last_content site next (commands command_of rest)) rest))
+          ∙ sym (append_assoc done said (rendered command_of site next (now + 1) rest));
       ends = p.ends;
     }
 
-pub more : (site : Parts) (a r t : Option Reading) (old mid new : Option Word) (before now then_ number : ℕ) (c next : Content) (line text : Word) (command : Command)
+pub more : (site : Parts) (a r t : Option Reading) (old mid new : Option Word) (before now then_ number : ℕ) (c next : Rendering) (line text : Word) (command : Command)
     → SoFar site a r old mid before now c → GivesLine r t line → command ≡ command_of line → Takes c next number command text
     → number ≡ now + 1 → then_ ≡ number → Appends mid new text → SoFar site a t old new before then_ next
 more site None r t old mid new before now then_ number c next line text command p gives is takes n m put = tt
@@ -59,7 +60,7 @@ more site (Some all) (Some r) (Some rest) old mid new before now then_ number c 
     let e : text ≡ said =
     t.1 ∙ ap (λ (k : ℕ). render_answer site p.0 k command) n ∙ ap (λ (x : Command). render_answer site p.0 (now + 1) x) is in (
       accepted site p.0 (command_of line),
-      t.0 ∙ ap (λ (x : Command). content site (accepted site p.0 x)) is,
+      subst (λ (x : Command). HasTaken site (accepted site p.0 x) next) is t.0,
       (
         p.2.0 ++ said,
         Appends-trans old mid new _ _ p.2.1 (subst (Appends mid new) e put),
@@ -68,22 +69,22 @@ more site (Some all) (Some r) (Some rest) old mid new before now then_ number c 
     )
 
 -- the pages behind the last answer
-ended : (site : Parts) (a r : Option Reading) (old mid new : Option Word) (before now : ℕ) (c : Content) → SoFar site a r old mid before now c → IsReading r Whole
-    → Appends mid new (rendered_pages c) → WritesScript (RendersLines message_command site before) a old new
+ended : (site : Parts) (a r : Option Reading) (old mid new : Option Word) (before now : ℕ) (c : Rendering) → SoFar site a r old mid before now c → IsReading r Whole
+    → Appends mid new (rendered_pages c.content) → WritesScript (RendersLines command_of site before) a old new
 ended site None r old mid new before now c p is put = tt
 ended site (Some all) None old mid new before now c p is put = absurd p
 ended site (Some all) (Some r) old mid new before now c p is put =
     let q = subst (λ (x : Reading). IsRendered site all x p.0 before now p.2.0) is p.2.2 in
-    (p.2.0 ++ rendered_pages (content site p.0), q.ends, sym q.goes, Appends-trans old mid new _ _ p.2.1 (subst (λ (x : Content). Appends mid new (rendered_pages x)) p.1 put))
+    (p.2.0 ++ rendered_pages (content site p.0), q.ends, sym q.goes, Appends-trans old mid new _ _ p.2.1 (subst (λ (x : Content). Appends mid new (rendered_pages x)) p.1.shows put))
 
-pub ended_by : (result : Result (Unit {0}) Stop) (site : Parts) (a r : Option Reading) (old mid new : Option Word) (before now : ℕ) (c : Content) → SoFar site a r old mid before now c
-    → IsReading r Whole → OnOk result (Appends mid new (rendered_pages c)) → OnOk result (WritesScript (RendersLines message_command site before) a old new)
+pub ended_by : (result : Result (Unit {0}) Stop) (site : Parts) (a r : Option Reading) (old mid new : Option Word) (before now : ℕ) (c : Rendering) → SoFar site a r old mid before now c
+    → IsReading r Whole → OnOk result (Appends mid new (rendered_pages c.content)) → OnOk result (WritesScript (RendersLines command_of site before) a old new)
 ended_by (Ok x) site a r old mid new before now c p is put = ended site a r old mid new before now c p is put
 ended_by (Err e) site a r old mid new before now c p is put = tt
 
 -- what was answered so far, where the rest is too long
-pub reaches : (site : Parts) (a r : Option Reading) (old new : Option Word) (before now : ℕ) (c : Content) → SoFar site a r old new before now c
-    → Reaches (RendersLines message_command site before) a r old new
+pub reaches : (site : Parts) (a r : Option Reading) (old new : Option Word) (before now : ℕ) (c : Rendering) → SoFar site a r old new before now c
+    → Reaches (RendersLines command_of site before) a r old new
 reaches site None r old new before now c p = tt
 reaches site (Some all) None old new before now c p = absurd p
 reaches site (Some all) (Some r) old new before now c p = (

@@ -18,7 +18,8 @@ use Rattle.dup_names.specs.Objects.{is_in}
 use Rattle.dup_model.specs.Touched.{expanded, joined, without}
 use Rattle.dup_model.specs.Versions.{content, version, target_content}
 use Rattle.dup_machine.specs.Works.{more}
-use Rattle.dup_model.proofs.Histories.{content_of}
+use Rattle.std.proofs.lemmas.Option.{none-some, same_Some}
+use Rattle.dup_main.specs.Kept.{IsOfSite}
 use Rattle.dup_model.proofs.Tables.{versions_rise}
 use Rattle.dup_transcript.specs.declared.command.Command.TheVariants as command
 use Rattle.dup_main.specs.declared.edition.Edition.{Edition as KeptEdition}
@@ -52,9 +53,10 @@ fits : (n rows version : ℕ) → n ≤ rows → rows ≤ version → version < 
 fits n rows version within made below = grind arith
 
 -- what was settled is a version
-settled_of : (site : Parts) (commits : List Commit) (v : Option ℕ) → IsSettledOf site (option_map (version site commits) v)
-settled_of site commits None = tt
-settled_of site commits (Some v) = (content_of site (take v commits), versions_rise site (take v commits))
+settled_of : (site : Parts) (commits : List Commit) (v : Option ℕ) (settled : Option Content) → settled ≡ option_map (version site commits) v → IsOfSite site settled → IsSettledOf site settled
+settled_of site commits v None is of = tt
+settled_of site commits None (Some a) is of = absurd (none-some a (sym is))
+settled_of site commits (Some v) (Some a) is of = (of, subst TablesRise (sym (same_Some a (version site commits v) is)) (versions_rise site (take v commits)))
 
 rest_of : (x n all : ℕ) → x + n ≡ all → all - n ≡ x
 rest_of x n all e = omega arith
@@ -86,7 +88,7 @@ settle_acts r c e text of ready below is put same said = λ s k.
     subst (λ (l : List (Path × Look)). KeepsPages (with_pages (length s.commits) l start) e) all
     (subst (λ (v : ℕ). KeepsPages (with_pages v (map (row_page site r.content) (keys r.content 0)) start) e) k.version (subst (λ (p : Parts). KeepsPages (with_pages r.version (map (row_page p r.content) (keys r.content 0)) start) e) is (put start k.edition))) in
     let counts : CountsRows r.settled r.content =
-    rows_counted site r.settled r.content ready.form (subst (IsSettledOf site) (sym k.target) (settled_of site s.commits s.target)) ready.of_site rise in
+    rows_counted site r.settled r.content ready.form (settled_of site s.commits s.target r.settled k.target ready.settled_of) ready.of_site rise in
     let a = target_content site s.commits s.target in
     let x : length (expanded a last) ≡ renewed_count r.settled r.content = sym (ap (λ (o : Option Content). length (expanded o r.content)) k.target ∙ ap (λ (b : Content). length (expanded a b)) k.content) ∙ counts.expands in
     let j : length (joined a last) ≡ renewed_count r.settled r.content = sym (ap (λ (o : Option Content). length (joined o r.content)) k.target ∙ ap (λ (b : Content). length (joined a b)) k.content) ∙ counts.joins in

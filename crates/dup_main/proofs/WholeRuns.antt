@@ -10,7 +10,7 @@ use Rattle.dup_names.specs.Words.{Word}
 use Rattle.dup_template.specs.declared.site.Parts.{Parts}
 use Rattle.dup_main.specs.declared.stop.Stop.{Stop}
 use Rattle.dup_main.specs.declared.stop.Stop.TheVariants as stops
-use Rattle.dup_main.specs.Commands.{message_command}
+use Rattle.dup_main.specs.Commands.{command_of, played_of}
 use Rattle.dup_transcript.specs.BadSites.{bad_site_text, or_cause}
 use Rattle.dup_transcript.specs.FirstForm.{not_built_site}
 use Rattle.dup_transcript.specs.Sessions.{Writes, first_session}
@@ -22,7 +22,9 @@ use Rattle.dup_transcript.specs.declared.task.Task.{Task}
 use Rattle.dup_transcript.specs.declared.task.Task.TheVariants as tasks
 use Rattle.dup_transcript.proofs.MachineScripts.{sessions_are_the_machines}
 use Rattle.dup_transcript.proofs.Transcripts.{played_form}
+use Rattle.dup_main.proofs.PlayedRuns.{grammars_good}
 use Rattle.dup_main.proofs.Puts.{lines_put}
+use Rattle.dup_transcript.proofs.Transcripts.{played}
 
 -- what is read of an input from its first byte
 abbrev pub Reads : Option Word → Option Reading → Type 0
@@ -84,18 +86,18 @@ without_script false r t u text is h = h
 
 -- what each task says of a good site, and what it may write for the lines behind it
 pub does_play : (site : Parts) (all : Reading) (status : ℕ) (more text : Word) → site_for grammars tasks.Play text ≡ Ok site → status ≡ ending all
-    → Writes message_command site first_session (site_lines all) (script all) more → Does grammars tasks.Play site all status (site_ok ++ more)
+    → Writes played_of site first_session (site_lines all) (script all) more → Does grammars tasks.Play site all status (site_ok ++ more)
 does_play site all status more text is ends w = (
   ends,
   (
     more,
     refl,
-    (sessions_are_the_machines site (site_lines all) (commands message_command (script all)) (too_long (script all)) more
-        (played_form (or_cause (grammars.site text)) site is) (lines_put (script all))).0 w,
+    (sessions_are_the_machines site (site_lines all) (commands played_of (script all)) (too_long (script all)) more
+        (played_form (or_cause (grammars.site text)) site is) (grammars_good text site (played (grammars.site text) site is)) (lines_put (script all))).0 w,
   ),
 )
 
-pub does_render : (site : Parts) (all : Reading) (status : ℕ) (more text : Word) → site_for grammars tasks.Render text ≡ Ok site → status ≡ ending all → RendersLines message_command site (site_lines all) (script all) more
+pub does_render : (site : Parts) (all : Reading) (status : ℕ) (more text : Word) → site_for grammars tasks.Render text ≡ Ok site → status ≡ ending all → RendersLines command_of site (site_lines all) (script all) more
     → Does grammars tasks.Render site all status ([] ++ more)
 does_render site all status more text is ends w = (ends, w)
 

@@ -8,7 +8,8 @@ use Rattle.dup_names.specs.Order.{text_cmp}
 use Rattle.dup_names.specs.Words.{Word, Path}
 use Rattle.dup_model.specs.Versions.{content, target_content}
 use Rattle.dup_model.specs.Editions.{Page}
-use Rattle.dup_model.specs.Content.{IsOf, table}
+use Rattle.dup_model.specs.Content.{Content, IsOf, table}
+use Rattle.dup_template.specs.declared.site.Parts.{Parts}
 use Rattle.dup_transcript.specs.FirstForm.{is_first_form}
 use Rattle.dup_transcript.specs.RowCounts.{IsSimple}
 use Rattle.dup_transcript.specs.RowPages.{plain_look}
@@ -54,10 +55,16 @@ Acts old new number command text =
     (s : Session) → Keeps s old → Keeps (after_command old.site.value s command) new
     × (text ≡ play_answer old.site.value s number command)
 
+-- what was settled, if anything, is a content of the site
+abbrev pub IsOfSite : Parts → Option Content → Type 0
+IsOfSite site None = Unit {0}
+IsOfSite site (Some a) = IsOf site a
+
 -- what holds whatever was done: the site is of the first form, the contents are its own, and each commit made
 -- one row at most
 pub record IsReady (r : Kept) : Type 0 where
   pub form : is_first_form r.site.value ≡ true
   pub of_site : IsOf r.site.value r.content
+  pub settled_of : IsOfSite r.site.value r.settled
   pub simple : IsSimple r.settled
   pub rows : length (table r.content 0) ≤ r.version

@@ -3,15 +3,15 @@ use Rattle.std.specs.Prelude.{ℕ, codes, Option, Some, None}
 use Rattle.std.specs.Io.KnownBytes.{Appends}
 use Rattle.dup_names.specs.Lines.{line, reading}
 use Rattle.dup_names.specs.Words.{Word}
+use Rattle.dup_feed.specs.Feed.{feed_says}
 use Rattle.dup_site.specs.Reads.{site_says}
 use Rattle.dup_site.specs.Spelling.{written}
 use Rattle.dup_transcript.specs.Transcript.{Grammars, IsTranscript}
 use Rattle.dup_transcript.specs.ScriptRuns.{HasRun}
 use Rattle.dup_transcript.specs.declared.task.Task.{Task}
-use Rattle.dup_main.specs.Commands.{message_command}
 
 abbrev pub grammars : Grammars
-grammars = record { site = site_says; canonical = written; feed = message_command }
+grammars = record { site = site_says; canonical = written; feed = feed_says }
 
 abbrev pub usage : Word
 usage = line (codes "usage: dup_top play | check | render | games N | serve PORT NODES CAPACITY MODE WORKERS")

@@ -1,6 +1,6 @@
-ghost use Rattle.std.specs.Prelude.{◌≡◌, ◌++◌, IfOk, codes, string_bytes};
+ghost use Rattle.std.specs.Prelude.{◌≡◌, ◌++◌, IfOk, OnOk, codes, string_bytes};
 ghost use Rattle.std.specs.Fmt.{decimal};
-ghost use Rattle.dup_transcript.specs.BadSites.{bad_site_text, what_word};
+ghost use Rattle.dup_transcript.specs.BadSites.{bad_site_text, rule_text, what_word};
 ghost use Rattle.dup_names.specs.Lines.{line};
 
 use dup_names::NoMemory;
@@ -21,31 +21,38 @@ fn what_word(what: What) -> &'static [u8]
     }
 }
 
-/// The line that says what is wrong, and with what.
-fn cause_line(alloc: Global, wrong: &[u8], with: &[u8]) -> Result<Vec<u8>, NoMemory>
-    ensures { IfOk result (λ text. text.items ≡ line (codes "bad site: " ++ (wrong.now ++ with.now))) }
+fn put_cause(wrong: &[u8], with: &[u8], out: &mut Vec<u8>) -> Result<(), NoMemory>
+    ensures { OnOk result (out.new.items ≡ out.old.items ++ (wrong.now ++ with.now)) }
 {
-    let mut text = Vec::new(alloc);
-    text.extend_from_slice(b"bad site: ")?;
-    text.extend_from_slice(wrong)?;
-    text.extend_from_slice(with)?;
-    text.push(b'\n')?;
-    Ok(text)
+    out.extend_from_slice(wrong)?;
+    out.extend_from_slice(with)?;
+    Ok(())
+}
+
+/// Puts a rule that is broken, in words. Want of memory stays what it is.
+pub(crate) fn put_rule(why: SiteRefusal, out: &mut Vec<u8>) -> Result<(), NoMemory>
+    ensures { OnOk result (out.new.items ≡ out.old.items ++ rule_text why) }
+{
+    match why {
+        SiteRefusal::Twice(name) => put_cause(b"twice ", name.bytes(), out),
+        SiteRefusal::Unknown(name) => put_cause(b"unknown ", name.bytes(), out),
+        SiteRefusal::LaterTemplate(name) => put_cause(b"later ", name.bytes(), out),
+        SiteRefusal::WrongKind(name) => put_cause(b"wrong kind ", name.bytes(), out),
+        SiteRefusal::NoPage(name) => put_cause(b"no page ", name.bytes(), out),
+        SiteRefusal::PathClash(path) => put_cause(b"path clash ", path.bytes(), out),
+        SiteRefusal::TooMany(what) => put_cause(b"too many ", what_word(what), out),
+        SiteRefusal::NoMemory => Err(NoMemory),
+    }
 }
 
 fn rule_line(alloc: Global, why: SiteRefusal) -> Result<Vec<u8>, NoMemory>
     ensures { IfOk result (λ text. text.items ≡ bad_site_text (SiteTextRefusal.Check why)) }
 {
-    match why {
-        SiteRefusal::Twice(name) => cause_line(alloc, b"twice ", name.bytes()),
-        SiteRefusal::Unknown(name) => cause_line(alloc, b"unknown ", name.bytes()),
-        SiteRefusal::LaterTemplate(name) => cause_line(alloc, b"later ", name.bytes()),
-        SiteRefusal::WrongKind(name) => cause_line(alloc, b"wrong kind ", name.bytes()),
-        SiteRefusal::NoPage(name) => cause_line(alloc, b"no page ", name.bytes()),
-        SiteRefusal::PathClash(path) => cause_line(alloc, b"path clash ", path.bytes()),
-        SiteRefusal::TooMany(what) => cause_line(alloc, b"too many ", what_word(what)),
-        SiteRefusal::NoMemory => Err(NoMemory),
-    }
+    let mut text = Vec::new(alloc);
+    text.extend_from_slice(b"bad site: ")?;
+    put_rule(why, &mut text)?;
+    text.push(b'\n')?;
+    Ok(text)
 }
 
 fn number_line(alloc: Global, number: u64) -> Result<String, AllocError>

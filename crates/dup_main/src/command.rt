@@ -2,8 +2,8 @@ ghost use Rattle.std.specs.Prelude.{◌≡◌, IfOk, IsTrue, length};
 ghost use Rattle.std.specs.Option.{option_copied};
 ghost use Rattle.dup_feed.specs.Feed.{feed_says};
 ghost use Rattle.dup_template.specs.Good.{behind};
-ghost use Rattle.dup_main.specs.Commands.{command_of, commit_command, message_command, seen};
-ghost use Rattle.dup_transcript.specs.Commands.{HasOneChange, by_message, by_start, by_words, four_words, get_command, if_more, is_one_put, is_put, message_of, mode_of, node_command, of_commit, one_word};
+ghost use Rattle.dup_main.specs.Commands.{command_of, seen};
+ghost use Rattle.dup_transcript.specs.Commands.{IsPutting, by_message, by_start, by_words, four_words, get_command, if_more, is_one_put, is_put, message_of, mode_of, node_command, of_message, one_word, playable as as_played};
 ghost use Rattle.dup_transcript.specs.Numbers.{number_of};
 
 use crate::number::read_number;
@@ -27,9 +27,8 @@ fn read_mode(word: &[u8]) -> Option<Mode>
 }
 
 fn node_command(number: &[u8], capacity: &[u8], mode: &[u8]) -> Command<Commit>
-    ensures command { result ≡ node_command (number_of number.now) (number_of capacity.now)
+    ensures { result ≡ node_command (number_of number.now) (number_of capacity.now)
         (mode_of mode.now) }
-    ensures one { HasOneChange result }
 {
     match (read_number(number), read_number(capacity), read_mode(mode)) {
         (Some(number @ 1..=16), Some(capacity @ 1..=65_536), Some(mode)) => Command::Node {
@@ -42,8 +41,7 @@ fn node_command(number: &[u8], capacity: &[u8], mode: &[u8]) -> Command<Commit>
 }
 
 fn get_command(node: &[u8], pass: &[u8], path: &[u8]) -> Command<Commit>
-    ensures command { result ≡ get_command (number_of node.now) (number_of pass.now) path.now }
-    ensures one { HasOneChange result }
+    ensures { result ≡ get_command (number_of node.now) (number_of pass.now) path.now }
 {
     match (read_number(node), read_number(pass), Path::read(path)) {
         (Some(node @ 1..=16), Some(pass), Some(path)) => Command::Get {
@@ -56,8 +54,7 @@ fn get_command(node: &[u8], pass: &[u8], path: &[u8]) -> Command<Commit>
 }
 
 fn one_word(word: &[u8]) -> Command<Commit>
-    ensures command { result ≡ one_word word.now }
-    ensures one { HasOneChange result }
+    ensures { result ≡ one_word word.now }
 {
     if is_word(word, b"settle") {
         Command::Settle
@@ -67,8 +64,7 @@ fn one_word(word: &[u8]) -> Command<Commit>
 }
 
 fn four_words(word: &[u8], a: &[u8], b: &[u8], c: &[u8]) -> Command<Commit>
-    ensures command { result ≡ four_words word.now a.now b.now c.now }
-    ensures one { HasOneChange result }
+    ensures { result ≡ four_words word.now a.now b.now c.now }
 {
     if is_word(word, b"node") {
         node_command(a, b, c)
@@ -81,8 +77,7 @@ fn four_words(word: &[u8], a: &[u8], b: &[u8], c: &[u8]) -> Command<Commit>
 
 #[tactic(auto, using(crate::proofs::WordLemmas::by_number))]
 fn by_words(words: &[&[u8]]) -> Command<Commit>
-    ensures command { result ≡ by_words (seen words.now) }
-    ensures one { HasOneChange result }
+    ensures { result ≡ by_words (seen words.now) }
 {
     match words.len() {
         1 => one_word(words[0]),
@@ -106,8 +101,7 @@ fn is_put(change: &Change) -> bool
 
 /// Whether a commit is one put.
 fn is_one_put(commit: &Commit) -> bool
-    ensures value { result ≡ is_one_put commit.now }
-    ensures one { IsTrue result → length commit.now ≡ 1 }
+    ensures { result ≡ is_one_put commit.now }
 {
     match commit.changes() {
         [change] => is_put(change),
@@ -116,13 +110,12 @@ fn is_one_put(commit: &Commit) -> bool
 }
 
 fn commit_command(alloc: Global, message: &[u8]) -> Result<Command<Commit>, NoMemory>
-    ensures command { IfOk result (λ command. command ≡ message_command message.now) }
-    ensures one { IfOk result HasOneChange }
+    ensures { IfOk result (λ command. command ≡ of_message (feed_says message.now)) }
 {
     match read_commit(alloc, message) {
-        Ok(commit) if is_one_put(&commit) => Ok(Command::Commit(commit)),
+        Ok(commit) => Ok(Command::Commit(commit)),
         Err(FeedRefusal::NoMemory) => Err(NoMemory),
-        _ => Ok(Command::NotBuilt),
+        Err(why) => Ok(Command::BadFeed(why)),
     }
 }
 
@@ -136,8 +129,7 @@ fn message_of(text: &[u8]) -> Option<&[u8]>
 }
 
 fn by_start(alloc: Global, text: &[u8]) -> Result<Command<Commit>, NoMemory>
-    ensures command { IfOk result (λ command. command ≡ by_start message_command text.now) }
-    ensures one { IfOk result HasOneChange }
+    ensures { IfOk result (λ command. command ≡ by_start feed_says text.now) }
 {
     match text {
         [] | [b'#', ..] => Ok(Command::Blank),
@@ -153,8 +145,25 @@ fn by_start(alloc: Global, text: &[u8]) -> Result<Command<Commit>, NoMemory>
 
 /// The command of a line.
 pub(crate) fn read_command(alloc: Global, text: &[u8]) -> Result<Command<Commit>, NoMemory>
-    ensures command { IfOk result (λ command. command ≡ command_of text.now) }
-    ensures one { IfOk result HasOneChange }
+    ensures { IfOk result (λ command. command ≡ command_of text.now) }
 {
     by_start(alloc, trimmed(text))
+}
+
+/// What is played of a command: a commit of more than one put isn't built.
+#[tactic(auto, using(crate::proofs::Puts::playable_puts))]
+pub(crate) fn playable(command: Command<Commit>) -> Command<Commit>
+    ensures command { result ≡ as_played command }
+    ensures one { IsPutting result }
+{
+    match command {
+        Command::Commit(commit) => {
+            if is_one_put(&commit) {
+                Command::Commit(commit)
+            } else {
+                Command::NotBuilt
+            }
+        }
+        command => command,
+    }
 }

@@ -4,23 +4,22 @@ ghost use Rattle.std.specs.Io.KnownBytes.{IsAtEnd};
 ghost use Rattle.dup_io.specs.Causes.{Rose};
 ghost use Rattle.dup_io.specs.Lines.{to_read, source_of, reference_of, number_of, fault_of};
 ghost use Rattle.dup_template.specs.Good.{IsGood};
-ghost use Rattle.dup_template.specs.declared.site.Parts.{Parts as Sites};
-ghost use Rattle.dup_model.specs.Content.{IsOf, start};
+ghost use Rattle.dup_model.specs.Content.{start};
+ghost use Rattle.dup_model.specs.GoodSites.{IsGoodContent};
 ghost use Rattle.dup_transcript.specs.declared.command.Command.TheVariants as command;
 ghost use Rattle.dup_main.specs.Faults.{FaultHasCause};
 ghost use Rattle.dup_main.specs.Taken.{Takes};
-ghost use Rattle.dup_main.specs.Commands.{message_command};
+ghost use Rattle.dup_main.specs.Commands.{command_of};
 ghost use Rattle.dup_main.specs.Stops.{StopsInScript, WritesScript};
 ghost use Rattle.dup_transcript.specs.Transcript.{RendersLines};
 
 use crate::all_pages::put_pages;
 use crate::command::read_command;
-use crate::session::ROWS;
 use crate::stop::Stop;
-use crate::texts::{not_built, refusal_text};
+use crate::texts::{bad_feed_text, bad_line, refusal_text};
 use dup_io::{Lines, Sink, Source, put_all};
 use dup_names::NoMemory;
-use dup_records::{Commit, CommitRefusal, Content, apply};
+use dup_records::{Commit, CommitRefusal, Content, JournalSize, Limits, apply};
 use dup_template::Site;
 use dup_transcript::Command;
 use std::alloc::Global;
@@ -34,36 +33,49 @@ pub(crate) fn first_content(alloc: Global, site: Site) -> Result<Content, NoMemo
     Content::start(alloc, site)
 }
 
-/// Applies a commit where it is accepted. Gives the line of its refusal, or nothing.
-fn take_commit(alloc: Global, content: &mut Content, commit: &Commit) -> Result<Vec<u8>, NoMemory>
-    ensures of_site { (site : Sites) → IsOf site content.old → IsOf site content.new }
-    ensures takes { IfOk result (λ text. Takes content.old content.new 0
+/// What a render keeps of the commits that it took: the content that they make, and how much they are.
+#[derive(Drop)]
+pub(crate) struct Rendering {
+    pub(crate) content: Content,
+    pub(crate) size: JournalSize,
+}
+
+/// Takes a commit where it is accepted. Gives the line of its refusal, or nothing.
+fn take_commit(alloc: Global, taken: &mut Rendering, commit: &Commit) -> Result<Vec<u8>, NoMemory>
+    ensures good { IsGoodContent taken.old.content → IsGoodContent taken.new.content }
+    ensures takes { IfOk result (λ text. Takes taken.old taken.new 0
         (command.Commit commit.now) text.items) }
 {
-    match apply(alloc, content, commit, ROWS) {
-        Ok(made) => {
-            *content = made;
+    let limits = Limits::default();
+    let Some(size) = taken.size.with(&limits, commit) else {
+        let JournalSize { commits, bytes } = taken.size;
+        return refusal_text(alloc, CommitRefusal::JournalFull { commits, bytes });
+    };
+    match apply(alloc, &taken.content, commit, limits.rows) {
+        Ok(content) => {
+            *taken = Rendering { content, size };
             Ok(Vec::new(alloc))
         }
         Err(CommitRefusal::NoMemory) => Err(NoMemory),
-        Err(why) => Ok(refusal_text(alloc, why)?.into_bytes()),
+        Err(why) => refusal_text(alloc, why),
     }
 }
 
 /// Does a command and gives its answer. What is no commit changes nothing.
 fn take(
     alloc: Global,
-    content: &mut Content,
+    taken: &mut Rendering,
     number: u64,
     command: Command<Commit>,
 ) -> Result<Vec<u8>, NoMemory>
-    ensures of_site { (site : Sites) → IsOf site content.old → IsOf site content.new }
-    ensures takes { IfOk result (λ text. Takes content.old content.new number command text.items) }
+    ensures good { IsGoodContent taken.old.content → IsGoodContent taken.new.content }
+    ensures takes { IfOk result (λ text. Takes taken.old taken.new number command text.items) }
 {
     match command {
         Command::Blank => Ok(Vec::new(alloc)),
-        Command::Commit(commit) => take_commit(alloc, content, &commit),
-        _ => Ok(not_built(alloc, number)?.into_bytes()),
+        Command::Commit(commit) => take_commit(alloc, taken, &commit),
+        Command::BadFeed(why) => bad_feed_text(alloc, why),
+        _ => Ok(bad_line(alloc, number)?.into_bytes()),
     }
 }
 
@@ -77,22 +89,24 @@ pub(crate) fn render_lines<'s, S: Source, K: Sink>(
     requires no_fault { fault_of lines.old ≡ None }
     requires good { IsGood site }
     ensures same_reference { reference_of lines.new ≡ reference_of lines.old }
-    ensures written { OnOk result (WritesScript (RendersLines message_command site (number_of lines.old))
+    ensures written { OnOk result (WritesScript (RendersLines command_of site (number_of lines.old))
         (to_read S.left lines.old) (K.written out.old) (K.written out.new)) }
     ensures at_end { OnOk result (IsAtEnd (S.left (source_of lines.new))) }
     ensures stopped { IfErr result (λ stop. StopsInScript stop
-        (RendersLines message_command site (number_of lines.old)) (to_read S.left lines.old)
+        (RendersLines command_of site (number_of lines.old)) (to_read S.left lines.old)
         (K.written out.old) (K.written out.new)) }
     ensures reads { FaultHasCause result Stop.ReadFault (S.faults (source_of lines.old)) (S.faults (source_of lines.new)) }
     ensures writes { FaultHasCause result Stop.WriteFault (K.faults out.old) (K.faults out.new) }
 {
-    let mut content = first_content(alloc, site)?;
+    let content = first_content(alloc, site)?;
+    let size = JournalSize::empty();
+    let mut taken = Rendering { content, size };
     'lines: loop {
         let Some(line) = lines.next(alloc)? else {
-            return put_pages(alloc, &content, out);
+            return put_pages(alloc, &taken.content, out);
         };
         let command = read_command(alloc, &line.bytes)?;
-        let text = take(alloc, &mut content, line.number, command)?;
+        let text = take(alloc, &mut taken, line.number, command)?;
         put_all(out, &text)?;
     }
 }

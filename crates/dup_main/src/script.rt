@@ -4,11 +4,11 @@ ghost use Rattle.dup_io.specs.Causes.{Rose};
 ghost use Rattle.dup_io.specs.Lines.{to_read, source_of, reference_of, number_of, fault_of};
 ghost use Rattle.dup_transcript.specs.FirstForm.{is_first_form};
 ghost use Rattle.dup_main.specs.Faults.{FaultHasCause};
-ghost use Rattle.dup_main.specs.Commands.{message_command};
+ghost use Rattle.dup_main.specs.Commands.{played_of};
 ghost use Rattle.dup_main.specs.Stops.{StopsInScript, WritesScript};
 ghost use Rattle.dup_transcript.specs.Sessions.{Writes, first_session};
 
-use crate::command::read_command;
+use crate::command::{playable, read_command};
 use crate::session::Session;
 use crate::stop::Stop;
 use dup_io::{Lines, Sink, Source, put_all};
@@ -26,11 +26,11 @@ pub(crate) fn play_script<'s, S: Source, K: Sink>(
     requires form { is_first_form site ≡ true }
     ensures same_reference { reference_of lines.new ≡ reference_of lines.old }
     ensures written { OnOk result (WritesScript
-        (Writes message_command site first_session (number_of lines.old)) (to_read S.left lines.old)
+        (Writes played_of site first_session (number_of lines.old)) (to_read S.left lines.old)
         (K.written out.old) (K.written out.new)) }
     ensures at_end { OnOk result (IsAtEnd (S.left (source_of lines.new))) }
     ensures stopped { IfErr result (λ stop. StopsInScript stop
-        (Writes message_command site first_session (number_of lines.old)) (to_read S.left lines.old)
+        (Writes played_of site first_session (number_of lines.old)) (to_read S.left lines.old)
         (K.written out.old) (K.written out.new)) }
     ensures reads { FaultHasCause result Stop.ReadFault (S.faults (source_of lines.old)) (S.faults (source_of lines.new)) }
     ensures writes { FaultHasCause result Stop.WriteFault (K.faults out.old) (K.faults out.new) }
@@ -40,7 +40,8 @@ pub(crate) fn play_script<'s, S: Source, K: Sink>(
         let Some(line) = lines.next(alloc)? else {
             return Ok(());
         };
-        let command = read_command(alloc, &line.bytes)?;
+        let asked = read_command(alloc, &line.bytes)?;
+        let command = playable(asked);
         let text = session.act(alloc, line.number, command)?;
         put_all(out, &text)?;
     }

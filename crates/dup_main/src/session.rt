@@ -6,19 +6,16 @@ use crate::counts::renewed_count;
 use crate::edition::Edition;
 use crate::publish::publish_rows;
 use crate::texts::{
-    absent_text, ahead_text, committed_text, found_text, no_node_text, node_text, not_built,
+    absent_text, ahead_text, bad_feed_text, committed_text, found_text, no_node_text, node_text, not_built,
     refusal_text, settled_text,
 };
 use dup_model::Mode;
-use dup_names::{NoMemory, Path};
+use dup_names::{MAX_ROWS, NoMemory, Path};
 use dup_records::{Commit, CommitRefusal, Content, apply};
 use dup_template::Site;
 use dup_transcript::Command;
 use std::alloc::Global;
 use std::sync::Arc;
-
-/// The most rows that a kind may have.
-pub(crate) const ROWS: u32 = 4_096;
 
 /// What the commands of a script work on.
 #[derive(Drop)]
@@ -44,7 +41,7 @@ fn has_node(nodes: &[u16], node: u16) -> bool
 
 impl Session {
     ghost use Rattle.dup_main.specs.Kept.{Acts, IsReady, Keeps};
-    ghost use Rattle.dup_transcript.specs.Commands.{HasOneChange};
+    ghost use Rattle.dup_transcript.specs.Commands.{IsPutting, is_one_put};
     ghost use Rattle.dup_transcript.specs.Sessions.{Session as Sessions, after_command, play_answer, first_session};
     ghost use Rattle.dup_transcript.specs.declared.command.Command.TheVariants as command;
 
@@ -70,7 +67,7 @@ impl Session {
 
     fn commit(&mut self, alloc: Global, commit: Commit) -> Result<Vec<u8>, NoMemory>
         requires ready { IsReady self.old }
-        requires one { length commit ≡ 1 }
+        requires one { is_one_put commit ≡ true }
         requires version { self.old.version < 2 ^ 40 }
         ensures site { self.new.site.value ≡ self.old.site.value }
         ensures ready { IsReady self.new }
@@ -78,14 +75,14 @@ impl Session {
         ensures version { self.new.version ≤ self.old.version + 1 }
         ensures number { self.new.edition.number ≡ self.old.edition.number }
     {
-        match apply(alloc, &self.content, &commit, ROWS) {
+        match apply(alloc, &self.content, &commit, MAX_ROWS) {
             Ok(content) => {
                 self.content = content;
                 self.version += 1;
                 Ok(committed_text(alloc, self.version)?.into_bytes())
             }
             Err(CommitRefusal::NoMemory) => Err(NoMemory),
-            Err(why) => Ok(refusal_text(alloc, why)?.into_bytes()),
+            Err(why) => Ok(refusal_text(alloc, why)?),
         }
     }
 
@@ -171,7 +168,7 @@ impl Session {
         command: Command<Commit>,
     ) -> Result<Vec<u8>, NoMemory>
         requires ready { IsReady self.old }
-        requires one { HasOneChange command }
+        requires one { IsPutting command }
         requires version { self.old.version < 2 ^ 40 }
         requires number { self.old.edition.number < 2 ^ 62 }
         ensures site { self.new.site.value ≡ self.old.site.value }
@@ -183,6 +180,7 @@ impl Session {
         match command {
             Command::Blank => Ok(Vec::new(alloc)),
             Command::Commit(commit) => self.commit(alloc, commit),
+            Command::BadFeed(why) => bad_feed_text(alloc, why),
             Command::Settle => self.settle(alloc),
             Command::Node {
                 number: node,

@@ -3,34 +3,75 @@ ghost use Rattle.std.specs.Fmt.{decimal};
 ghost use Rattle.dup_model.specs.Commits.{Refusal};
 ghost use Rattle.dup_records.specs.Refusals.{Names};
 ghost use Rattle.dup_main.specs.Kept.{page_of};
-ghost use Rattle.dup_transcript.specs.Texts.{found_text, refusal_text, settled_text};
+ghost use Rattle.dup_transcript.specs.BadSites.{rule_text};
+ghost use Rattle.dup_transcript.specs.Texts.{bad_feed_text, bad_line_text, found_text, refusal_text, settled_text};
 ghost use Rattle.dup_names.specs.Lines.{line};
 
+use crate::bad_site::put_rule;
 use crate::edition::EditionPage;
+use dup_model::FeedRefusal;
 use dup_names::NoMemory;
 use dup_records::CommitRefusal;
+use dup_template::SiteRefusal;
 use std::alloc::{AllocError, Global};
 
-pub(crate) fn refusal_text(alloc: Global, why: CommitRefusal) -> Result<String, AllocError>
-    requires { why ≢ CommitRefusal.NoMemory }
+fn at_change(alloc: Global, what: &str, change: u16) -> Result<Vec<u8>, NoMemory>
+    ensures { IfOk result (λ text. text.items
+        ≡ line (codes "refused " ++ (what.now ++ (codes " at " ++ decimal change)))) }
+{
+    Ok(format!(in alloc; "refused {what} at {change}\n")?.into_bytes())
+}
+
+fn bad_body_text(alloc: Global, change: u16, why: SiteRefusal) -> Result<Vec<u8>, NoMemory>
+    ensures { IfOk result (λ text. text.items
+        ≡ line (codes "refused bad body at " ++ decimal change ++ codes ": " ++ rule_text why)) }
+{
+    let mut text = format!(in alloc; "refused bad body at {change}: ")?.into_bytes();
+    put_rule(why, &mut text)?;
+    text.push(b'\n')?;
+    Ok(text)
+}
+
+/// The line that says why a commit is refused. Want of memory stays what it is.
+pub(crate) fn refusal_text(alloc: Global, why: CommitRefusal) -> Result<Vec<u8>, NoMemory>
     ensures { IfOk result (λ text. (due : Refusal) → Names why (Some due) →
-        string_bytes text ≡ refusal_text due) }
+        text.items ≡ refusal_text due) }
 {
     match why {
-        CommitRefusal::UnknownKind(change) => {
-            format!(in alloc; "refused unknown kind at {change}\n")
-        }
-        CommitRefusal::UnknownField(change) => {
-            format!(in alloc; "refused unknown field at {change}\n")
-        }
-        CommitRefusal::NoRow(change) => format!(in alloc; "refused no row at {change}\n"),
-        CommitRefusal::KindFull(change) => format!(in alloc; "refused kind full at {change}\n"),
+        CommitRefusal::UnknownKind(change) => at_change(alloc, "unknown kind", change),
+        CommitRefusal::UnknownField(change) => at_change(alloc, "unknown field", change),
+        CommitRefusal::NoRow(change) => at_change(alloc, "no row", change),
+        CommitRefusal::KindFull(change) => at_change(alloc, "kind full", change),
         CommitRefusal::JournalFull {
             commits: _,
             bytes: _,
-        } => format!(in alloc; "refused journal full\n"),
-        CommitRefusal::NoMemory => unreachable!(),
+        } => Ok(format!(in alloc; "refused journal full\n")?.into_bytes()),
+        CommitRefusal::UnknownTemplate(change) => at_change(alloc, "unknown template", change),
+        CommitRefusal::BadBody(change, rule) => bad_body_text(alloc, change, rule),
+        CommitRefusal::NoMemory => Err(NoMemory),
     }
+}
+
+/// The line that says why a feed message says no commit. Want of memory stays what it is.
+pub(crate) fn bad_feed_text(alloc: Global, why: FeedRefusal) -> Result<Vec<u8>, NoMemory>
+    ensures { IfOk result (λ text. text.items ≡ bad_feed_text why) }
+{
+    match why {
+        FeedRefusal::NotJson => Ok(format!(in alloc; "refused not json\n")?.into_bytes()),
+        FeedRefusal::Shape(change) => {
+            Ok(format!(in alloc; "refused shape {change}\n")?.into_bytes())
+        }
+        FeedRefusal::TooMany(_) => {
+            Ok(format!(in alloc; "refused too many changes\n")?.into_bytes())
+        }
+        FeedRefusal::NoMemory => Err(NoMemory),
+    }
+}
+
+pub(crate) fn bad_line(alloc: Global, number: u64) -> Result<String, AllocError>
+    ensures { IfOk result (λ text. string_bytes text ≡ bad_line_text number) }
+{
+    format!(in alloc; "bad line {number}\n")
 }
 
 pub(crate) fn not_built(alloc: Global, number: u64) -> Result<String, AllocError>

@@ -5,14 +5,14 @@ use Rattle.dup_names.specs.Grammar.{is_key}
 use Rattle.dup_names.specs.declared.object.Obj.{Obj}
 use Rattle.dup_names.specs.declared.object.Item.{Item}
 use Rattle.dup_names.specs.declared.object.Item.TheVariants as item
-use Rattle.dup_model.specs.Frame.{Frame}
+use Rattle.dup_template.specs.Frame.{Frame}
 use Rattle.dup_template.specs.declared.statement.Statement.{Statement, roll-Statement}
 use Rattle.dup_template.specs.declared.statement.Statement.TheOpen.{Statement-F}
 use Rattle.dup_template.specs.declared.statement.Statement.TheFolds.{ind-Statement, fold-roll-Statement, map-Statement}
 use Rattle.dup_model.specs.declared.mark.Mark.{Mark}
 use Rattle.dup_model.specs.declared.mark.Mark.TheVariants as mark
-use Rattle.dup_names.specs.declared.value.Value.{Value}
-use Rattle.dup_names.specs.declared.value.Value.TheVariants as seen
+use Rattle.dup_template.specs.declared.value.Value.{Value}
+use Rattle.dup_template.specs.declared.value.Value.TheVariants as seen
 use Rattle.dup_names.specs.Words.{Word, put, put_at, in_order}
 use Rattle.std.specs.Ordering.{nat_cmp, ordering_then}
 use Rattle.std.specs.declared.cmp.Ordering.{Ordering}
@@ -25,6 +25,7 @@ use Rattle.dup_model.specs.Content.{body_at}
 use Rattle.dup_model.specs.Turns.{bodies, rows_by, order_reads, turns, each_marks, group_marks}
 use Rattle.dup_model.specs.Links.{link, link_via, linked_to, opening, closing}
 use Rattle.dup_model.specs.Names.{field_at, object_of, template_at, kind_at, page_path, kind_named}
+use Rattle.dup_model.proofs.Induction.{within}
 
 -- the turns behind the item that is read for them
 abbrev ordered_turns : Content → ℕ → Option Word → (Here → List Mark) → List Word → List Mark
@@ -63,12 +64,16 @@ abbrev word_in : Value → Word
 word_in (seen.Text w) = w
 word_in _ = []
 
-module _ (site : Frame) (bodies_then : List (List Statement)) (old new : List Table) where
+abbrev body_in : Value → List Statement
+body_in (seen.Body body) = body
+body_in _ = []
+
+module _ (site : Frame) (bodies_before bodies_after : List (List Statement)) (old new : List Table) where
   abbrev c : Content
-  c = record { frame = site; bodies = bodies_then; tables = old }
+  c = record { frame = site; bodies = bodies_before; tables = old }
 
   abbrev d : Content
-  d = record { frame = site; bodies = bodies_then; tables = new }
+  d = record { frame = site; bodies = bodies_after; tables = new }
 
   abbrev Agrees : Statement → Type 0
   Agrees s = (here : Here) → AreSame c d (statement_marks c s here) → statement_marks c s here ≡ statement_marks d s here
@@ -83,16 +88,6 @@ module _ (site : Frame) (bodies_then : List (List Statement)) (old new : List Ta
       ap₂ (λ x y. x ++ y)
       (e.1 here (AreSame-front c d (statement_marks c e.0 here) (body_marks c (map (λ e. e.0) es) here) h))
       (body-same es here (AreSame-rest c d (statement_marks c e.0 here) (body_marks c (map (λ e. e.0) es) here) h))
-
-  abbrev below : (Content → Statement-F Kid → Statement-F (Here → List Mark))
-  below e (Statement-F.Say w) = Statement-F.Say w
-  below e Statement-F.Nl = Statement-F.Nl
-  below e (Statement-F.Field n) = Statement-F.Field n
-  below e Statement-F.Key = Statement-F.Key
-  below e (Statement-F.If n body) = Statement-F.If n (map (statement_marks e) (map (λ k. k.0) body))
-  below e (Statement-F.Each n by order body) = Statement-F.Each n by order (map (statement_marks e) (map (λ k. k.0) body))
-  below e (Statement-F.Embed n via) = Statement-F.Embed n via
-  below e (Statement-F.Link n via body) = Statement-F.Link n via (map (statement_marks e) (map (λ k. k.0) body))
 
   on_key-same : (k : Option Word) (f g : Word → List Mark) → ((key : Word) → AreSame c d (f key) → f key ≡ g key) →
       AreSame c d (on_key k f) → on_key k f ≡ on_key k g
@@ -221,6 +216,9 @@ module _ (site : Frame) (bodies_then : List (List Statement)) (old new : List Ta
       (link-same n (kind_named site n) (Some to) xs ys same) same h.1) ∙
       ap (λ w. first ∷ (if is_key w then link d n (kind_named site n) (Some w) ys else ys)) (ap word_in h.0)
 
+  abbrev below : Content → Statement-F Kid → Statement-F (Here → List Mark)
+  below e = within Agrees (Here → List Mark) (statement_marks e)
+
   step-same : (y : Statement-F Kid) (here : Here) → AreSame c d (marks_step c (below c y) here) → marks_step c (below c y) here ≡ marks_step d (below d y) here
   step-same (Statement-F.Say w) here h = refl
   step-same Statement-F.Nl here h = refl
@@ -246,14 +244,7 @@ module _ (site : Frame) (bodies_then : List (List Statement)) (old new : List Ta
       on_key-same here.key (link_via c here.kind n via xs) (link_via d here.kind n via ys) (link_via-same here.kind n via xs ys (body-same body here)) h
 
   from_step : (y : Statement-F Kid) → Agrees (roll-Statement (map-Statement Kid Statement (λ e. e.0) y))
-  from_step (Statement-F.Say w) here = rw (fold-roll-Statement, fold-roll-Statement) (step-same (Statement-F.Say w) here)
-  from_step Statement-F.Nl here = rw (fold-roll-Statement, fold-roll-Statement) (step-same Statement-F.Nl here)
-  from_step (Statement-F.Field n) here = rw (fold-roll-Statement, fold-roll-Statement) (step-same (Statement-F.Field n) here)
-  from_step Statement-F.Key here = rw (fold-roll-Statement, fold-roll-Statement) (step-same Statement-F.Key here)
-  from_step (Statement-F.If n body) here = rw (fold-roll-Statement, fold-roll-Statement) (step-same (Statement-F.If n body) here)
-  from_step (Statement-F.Each n by order body) here = rw (fold-roll-Statement, fold-roll-Statement) (step-same (Statement-F.Each n by order body) here)
-  from_step (Statement-F.Embed n via) here = rw (fold-roll-Statement, fold-roll-Statement) (step-same (Statement-F.Embed n via) here)
-  from_step (Statement-F.Link n via body) here = rw (fold-roll-Statement, fold-roll-Statement) (step-same (Statement-F.Link n via body) here)
+  from_step y here = rw (fold-roll-Statement, fold-roll-Statement) (step-same y here)
 
   pub statement-same : (s : Statement) → Agrees s
   statement-same = ind-Statement Agrees (λ x y is. subst (λ z. Agrees (roll-Statement z)) is (from_step y))
@@ -266,4 +257,6 @@ module _ (site : Frame) (bodies_then : List (List Statement)) (old new : List Ta
       (body_marks-same ss here (AreSame-rest c d (statement_marks c s here) (body_marks c ss here) h))
 
   pub marks-same : (o : Obj) → AreSame c d (marks c o) → marks c o ≡ marks d o
-  marks-same o h = body_marks-same (body_at c o.template) (here_at c o) h
+  marks-same o h =
+      ap (λ ms. mark.Read (item.Template o.template) ∷ ms)
+      (body_marks-same (body_at c o.template) (here_at c o) h.1 ∙ ap (λ body. body_marks d body (here_at d o)) (ap body_in h.0))

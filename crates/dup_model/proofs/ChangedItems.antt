@@ -15,7 +15,9 @@ use Rattle.dup_names.specs.Words.{Word, same, in_order}
 use Rattle.dup_names.specs.declared.object.Obj.{Obj}
 use Rattle.dup_names.specs.declared.object.Item.{Item}
 use Rattle.dup_names.specs.declared.object.Item.TheVariants as item
-use Rattle.dup_model.specs.Content.{Content, Entry, Table, table, texts_at, row, text, keys, group}
+use Rattle.dup_model.specs.Content.{Content, Entry, Table, body_at, table, texts_at, row, text, keys, group}
+use Rattle.dup_template.specs.SameBody.{same_body}
+use Rattle.dup_template.specs.declared.statement.Statement.{Statement}
 use Rattle.dup_model.specs.Skeletons.{reads}
 use Rattle.dup_model.specs.Touched.{AreChanged, differs, is_item, items_rise, touched}
 use Rattle.dup_model.specs.ChangedItems.{ChangesExist}
@@ -61,8 +63,12 @@ abbrev from_tables : ℕ → List Table → List Item
 from_tables k [] = []
 from_tables k (es ∷ rest) = of_table k es ++ from_tables (suc k) rest
 
+abbrev from_bodies : {B : Type 0} → ℕ → List B → List Item
+from_bodies n [] = []
+from_bodies n (body ∷ rest) = item.Template n ∷ from_bodies (suc n) rest
+
 abbrev items_of : Content → List Item
-items_of c = from_tables 0 c.tables
+items_of c = from_tables 0 c.tables ++ from_bodies 0 c.bodies
 
 module _ (k : ℕ) (key : Word) where
   text_in : (f i : ℕ) (ts : List Word) (t : Word) → slice_get ts i ≡ Some t → (member (of_texts k key f ts) (item.Field k key (f + i)) ≡ true) × (member (of_texts k key f ts) (item.Group k (f + i) t) ≡ true)
@@ -140,11 +146,33 @@ table_in it (suc i) k (t ∷ ts) es is h =
     let next : k + suc i ≡ suc k + i = omega arith in
     behind it (of_table k t) (from_tables (suc k) ts) (table_in it i (suc k) ts es is (subst (λ n. member (of_table n es) it ≡ true) next h))
 
+-- the templates
+template_in : {B : Type 0} (i n : ℕ) (bodies : List B) (body : B) → slice_get bodies i ≡ Some body → member (from_bodies n bodies) (item.Template (n + i)) ≡ true
+template_in i n [] body is = absurd (none-some body is)
+template_in zero n (b ∷ bs) body is =
+    let end : n + 0 ≡ n = omega arith in
+    subst (λ m. member (from_bodies n (b ∷ bs)) (item.Template m) ≡ true) (sym end) (here_first (item.Template n) (from_bodies (suc n) bs))
+template_in (suc i) n (b ∷ bs) body is =
+    let next : suc n + i ≡ n + suc i = omega arith in
+    subst (λ m. member (from_bodies n (b ∷ bs)) (item.Template m) ≡ true) next
+    (next_in (item.Template (suc n + i)) (item.Template n) (from_bodies (suc n) bs) (template_in i (suc n) bs body is))
+
+template_of : (c : Content) (n : ℕ) → (body_at c n ≡ [] → ⊥) → member (items_of c) (item.Template n) ≡ true
+template_of c n some = by_option (slice_get c.bodies n) refl some
+  where
+    by_option : (o : Option (List Statement)) → slice_get c.bodies n ≡ o → (unwrap_or o [] ≡ [] → ⊥) → member (items_of c) (item.Template n) ≡ true
+    by_option None is some = absurd (some refl)
+    by_option (Some body) is some =
+        let start : 0 + n ≡ n = omega arith in
+        behind (item.Template n) (from_tables 0 c.tables) (from_bodies 0 c.bodies)
+        (subst (λ m. member (from_bodies 0 c.bodies) (item.Template m) ≡ true) start (template_in n 0 c.bodies body is))
+
 module _ (c : Content) (k : ℕ) (it : Item) where
   in_items : (es : Table) → slice_get c.tables k ≡ Some es → member (of_table k es) it ≡ true → member (items_of c) it ≡ true
   in_items es is h =
       let end : k ≡ 0 + k = omega arith in
-      table_in it k 0 c.tables es is (subst (λ n. member (of_table n es) it ≡ true) end h)
+      in_front it (from_tables 0 c.tables) (from_bodies 0 c.bodies)
+      (table_in it k 0 c.tables es is (subst (λ n. member (of_table n es) it ≡ true) end h))
 
   -- an item of a kind whose rows are there
   by_table : (P : Table → Type 0) → (P [] → ⊥) → ((es : Table) → P es → member (of_table k es) it ≡ true) → P (table c k) → member (items_of c) it ≡ true
@@ -215,6 +243,9 @@ module _ (a b : Content) where
   group_differs : (k f : ℕ) (q : Word) → differs a b (item.Group k f q) ≡ true → group a k f q ≡ [] → group b k f q ≡ [] → ⊥
   group_differs k f q h one two = true≢false (sym h ∙ ap (λ ks. not (pointwise same ks (group b k f q))) one ∙ ap (λ ks. not (pointwise same [] ks)) two)
 
+  body_differs : (n : ℕ) → differs a b (item.Template n) ≡ true → body_at a n ≡ [] → body_at b n ≡ [] → ⊥
+  body_differs n h one two = true≢false (sym h ∙ ap (λ body. not (same_body body (body_at b n))) one ∙ ap (λ body. not (same_body [] body)) two)
+
   complete : (it : Item) → is_item it ≡ true → differs a b it ≡ true → member (items_of a ++ items_of b) it ≡ true
   complete (item.Field k q f) fine h = of_some (text a k q f) (text b k q f) (item.Field k q f) (field_of a k q f) (field_of b k q f) (field_differs k q f h)
   complete (item.Row k q) fine h = elim (row_differs (is_some (row a k q)) (is_some (row b k q)) h) [
@@ -224,6 +255,7 @@ module _ (a b : Content) where
   complete (item.List k) fine h = of_some (keys a k) (keys b k) (item.List k) (list_of a k) (list_of b k) (list_differs k h)
   complete (item.Group k f q) fine h =
       of_some (group a k f q) (group b k f q) (item.Group k f q) (group_of a k f q (key_full q fine)) (group_of b k f q (key_full q fine)) (group_differs k f q h)
+  complete (item.Template n) fine h = of_some (body_at a n) (body_at b n) (item.Template n) (template_of a n) (template_of b n) (body_differs n h)
 
   -- the list
   passes : Item → Bool

@@ -10,7 +10,6 @@ use Rattle.std.specs.Cmp.Lexicographic.{nat_list_cmp_total}
 use Rattle.std.proofs.lemmas.Bool.{true≢false, and_parts, and_from, or_cases}
 use Rattle.std.specs.FinMap as fin
 use Rattle.std.specs.FinMap.Entries.{is_some-find, is_sorted, below_all}
-use Rattle.std.proofs.Math.Dec.{T}
 use Rattle.dup_model.proofs.Reached.{tie_same, tie_itself, has_filter}
 use Rattle.dup_names.specs.Words.{Path}
 use Rattle.dup_names.specs.declared.value.Look.{Look}

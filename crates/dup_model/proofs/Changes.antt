@@ -12,11 +12,12 @@ use Rattle.std.proofs.lemmas.Bool.Decides.{Decides-eqb}
 use Rattle.std.proofs.lemmas.Slice.Eq.{bytes_eq-Decides}
 use Rattle.dup_names.specs.Order.{text_cmp}
 use Rattle.dup_names.specs.Words.{Word, same, place}
-use Rattle.dup_model.specs.declared.edit.Edit.TheVariants.{Put, Remove}
+use Rattle.dup_model.specs.declared.edit.Edit.TheVariants.{Put, Remove, Replace}
 use Rattle.dup_model.specs.Content.{Content, Entry, Table, table, row}
-use Rattle.dup_model.specs.Names.{kind_at, fields_at}
+use Rattle.dup_model.specs.Names.{kind_at, fields_at, template_at}
 use Rattle.dup_model.specs.Commits.{edited, with_table, with_fields, put_row, put_row_at, blank}
-use Rattle.dup_model.specs.Changes.{OtherKindsStay, OtherRowsStay, PutMakesTheRow, NamedFieldsAreSet, OtherFieldsStay, RemoveTakesTheRow}
+use Rattle.dup_template.specs.declared.statement.Statement.{Statement}
+use Rattle.dup_model.specs.Changes.{BodyIsReplaced, OtherBodiesStay, OtherKindsStay, OtherRowsStay, PutMakesTheRow, NamedFieldsAreSet, OtherFieldsStay, RemoveTakesTheRow}
 use Rattle.dup_model.proofs.Reached.{tie_itself}
 
 -- lists
@@ -123,13 +124,18 @@ row_of c k rows kind q same_row = by_kind (cases_Bool (kind == k))
         short_or_long (suc m) (suc n) = elim (short_or_long m n) [ inl h ↦ inl (omega (arith, h)) | inr h ↦ inr (omega (arith, h)) ]
     by_kind (inr isnt) = ap (λ es. option_map (λ e. e.1) (row_in q es)) (other_table c k rows kind (λ is. true≢false (sym ((Decides-eqb kind k).1 is) ∙ isnt)))
 
+not_kind : (m n : ℕ) → (m == n) ≡ false → n ≡ m → ⊥
+not_kind m n isnt is = true≢false (sym ((Decides-eqb m n).1 (sym is)) ∙ isnt)
+
 pub other_kinds_stay : OtherKindsStay
-other_kinds_stay c (Put name key fields) kind q h = ap (λ es. option_map (λ e. e.1) (row_in q es)) (other_table c (kind_at c.frame name) _ kind h)
-other_kinds_stay c (Remove name key) kind q h = ap (λ es. option_map (λ e. e.1) (row_in q es)) (other_table c (kind_at c.frame name) _ kind h)
+other_kinds_stay c (Put name key fields) kind q h = ap (λ es. option_map (λ e. e.1) (row_in q es)) (other_table c (kind_at c.frame name) _ kind (not_kind _ kind h))
+other_kinds_stay c (Remove name key) kind q h = ap (λ es. option_map (λ e. e.1) (row_in q es)) (other_table c (kind_at c.frame name) _ kind (not_kind _ kind h))
+other_kinds_stay c (Replace name body) kind q h = refl
 
 pub other_rows_stay : OtherRowsStay
 other_rows_stay c (Put name key fields) kind q h = row_of c (kind_at c.frame name) _ kind q (other_put _ q h (table c (kind_at c.frame name)))
 other_rows_stay c (Remove name key) kind q h = row_of c (kind_at c.frame name) _ kind q (kept_rows key q h (table c (kind_at c.frame name)))
+other_rows_stay c (Replace name body) kind q h = refl
 
 pub put_makes_the_row : PutMakesTheRow
 put_makes_the_row c name key fields within =
@@ -172,3 +178,22 @@ named_fields_are_set names [] after name text texts within later =
     other_fields_stay names after (slice_set texts (place name names) text) (place name names) later ∙ get_set texts (place name names) text within
 named_fields_are_set names (f ∷ before) after name text texts within later =
     named_fields_are_set names before after name text (slice_set texts (place f.0 names) f.1) (subst (λ n. place name names < n) (sym (length_set texts (place f.0 names) f.1)) within) later
+
+-- a body that is set, at its own template or at another
+own_body : (bodies : List (List Statement)) (n : ℕ) (body : List Statement) → n < length bodies → unwrap_or (slice_get (slice_set bodies n body) n) [] ≡ body
+own_body [] n body within = absurd (omega (arith, within))
+own_body (b ∷ bs) zero body within = refl
+own_body (b ∷ bs) (suc n) body within = own_body bs n body (omega (arith, within))
+
+other_body : (bodies : List (List Statement)) (n k : ℕ) (body : List Statement) → (k ≡ n → ⊥) → slice_get (slice_set bodies n body) k ≡ slice_get bodies k
+other_body [] n k body other = refl
+other_body (b ∷ bs) zero zero body other = absurd (other refl)
+other_body (b ∷ bs) zero (suc k) body other = refl
+other_body (b ∷ bs) (suc n) zero body other = refl
+other_body (b ∷ bs) (suc n) (suc k) body other = other_body bs n k body (λ is. other (ap suc is))
+
+pub body_is_replaced : BodyIsReplaced
+body_is_replaced c name body within = own_body c.bodies (template_at c.frame name) body within
+
+pub other_bodies_stay : OtherBodiesStay
+other_bodies_stay c name body template other = ap (λ o. unwrap_or o []) (other_body c.bodies (template_at c.frame name) template body other)

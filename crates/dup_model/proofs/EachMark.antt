@@ -20,6 +20,7 @@ use Rattle.dup_model.specs.Content.{body_at}
 use Rattle.dup_model.specs.Turns.{bodies, turns, each_marks, group_marks}
 use Rattle.dup_model.specs.Links.{link, link_via, linked_to, opening, closing}
 use Rattle.dup_model.specs.Embeddings.{embedded, embedded_step}
+use Rattle.dup_model.proofs.Induction.{within}
 
 pub all_append : {A : Type 0} (P : A → Type 0) (xs ys : List A) → AllByRecursion P xs → AllByRecursion P ys → AllByRecursion P (xs ++ ys)
 all_append P [] ys h k = k
@@ -109,27 +110,8 @@ module _ (c : Content) (P : Mark → Type 0) (Allowed : Word → Type 0) (gives 
   all_link : (name : Word) (key : Option Word) (xs : List Mark) → All xs → All (link c name (kind_named c.frame name) key xs)
   all_link name key xs h = all_link_at name (kind_named c.frame name) refl key xs h
 
-  abbrev below : Statement-F Kid → Statement-F (Here → List Mark)
-  below (Statement-F.Say w) = Statement-F.Say w
-  below Statement-F.Nl = Statement-F.Nl
-  below (Statement-F.Field n) = Statement-F.Field n
-  below Statement-F.Key = Statement-F.Key
-  below (Statement-F.If n body) = Statement-F.If n (map (statement_marks c) (map (λ k. k.0) body))
-  below (Statement-F.Each n by order body) = Statement-F.Each n by order (map (statement_marks c) (map (λ k. k.0) body))
-  below (Statement-F.Embed n via) = Statement-F.Embed n via
-  below (Statement-F.Link n via body) = Statement-F.Link n via (map (statement_marks c) (map (λ k. k.0) body))
-
-  abbrev names_below : Statement-F Kid → Statement-F (List Word)
-  names_below (Statement-F.Say w) = Statement-F.Say w
-  names_below Statement-F.Nl = Statement-F.Nl
-  names_below (Statement-F.Field n) = Statement-F.Field n
-  names_below Statement-F.Key = Statement-F.Key
-  names_below (Statement-F.If n body) = Statement-F.If n (map embedded (map (λ k. k.0) body))
-  names_below (Statement-F.Each n by order body) = Statement-F.Each n by order (map embedded (map (λ k. k.0) body))
-  names_below (Statement-F.Embed n via) = Statement-F.Embed n via
-  names_below (Statement-F.Link n via body) = Statement-F.Link n via (map embedded (map (λ k. k.0) body))
-
-  step : (y : Statement-F Kid) → Names (embedded_step (names_below y)) → (here : Here) → All (marks_step c (below y) here)
+  step : (y : Statement-F Kid) → Names (embedded_step (within Fine (List Word) embedded y)) → (here : Here) →
+      All (marks_step c (within Fine (Here → List Mark) (statement_marks c) y) here)
   step (Statement-F.Say w) h here = (gives.plain w, tt)
   step Statement-F.Nl h here = (gives.plain _, tt)
   step (Statement-F.Field n) h here = all_on_key here.key (field_marks c here.kind n) (λ key. (gives.read _, (gives.plain _, tt)))
@@ -153,14 +135,7 @@ module _ (c : Content) (P : Mark → Type 0) (Allowed : Word → Type 0) (gives 
       ))
 
   from_step : (y : Statement-F Kid) → Fine (roll-Statement (map-Statement Kid Statement (λ e. e.0) y))
-  from_step (Statement-F.Say w) = rw (fold-roll-Statement, fold-roll-Statement) (step (Statement-F.Say w))
-  from_step Statement-F.Nl = rw (fold-roll-Statement, fold-roll-Statement) (step Statement-F.Nl)
-  from_step (Statement-F.Field n) = rw (fold-roll-Statement, fold-roll-Statement) (step (Statement-F.Field n))
-  from_step Statement-F.Key = rw (fold-roll-Statement, fold-roll-Statement) (step Statement-F.Key)
-  from_step (Statement-F.If n body) = rw (fold-roll-Statement, fold-roll-Statement) (step (Statement-F.If n body))
-  from_step (Statement-F.Each n by order body) = rw (fold-roll-Statement, fold-roll-Statement) (step (Statement-F.Each n by order body))
-  from_step (Statement-F.Embed n via) = rw (fold-roll-Statement, fold-roll-Statement) (step (Statement-F.Embed n via))
-  from_step (Statement-F.Link n via body) = rw (fold-roll-Statement, fold-roll-Statement) (step (Statement-F.Link n via body))
+  from_step y = rw (fold-roll-Statement, fold-roll-Statement) (step y)
 
   statement_all : (s : Statement) → Fine s
   statement_all = ind-Statement Fine (λ x y is. subst (λ z. Fine (roll-Statement z)) is (from_step y))
@@ -173,4 +148,4 @@ module _ (c : Content) (P : Mark → Type 0) (Allowed : Word → Type 0) (gives 
       (body_all ss (all_rest Allowed (embedded s) (flat_map embedded ss) h) here)
 
   pub marks_all : (o : Obj) → Names (flat_map embedded (body_at c o.template)) → All (marks c o)
-  marks_all o h = body_all (body_at c o.template) h (here_at c o)
+  marks_all o h = (gives.read (item.Template o.template), body_all (body_at c o.template) h (here_at c o))

@@ -4,8 +4,8 @@ use Rattle.std.specs.Prelude.{Some, None}
 use Rattle.std.specs.List.{list_any}
 use Rattle.std.proofs.lemmas.Option.{none-some}
 use Rattle.dup_names.specs.declared.object.Item.{Item}
-use Rattle.dup_names.specs.declared.value.Value.{Value}
-use Rattle.dup_model.specs.Content.{Content, IsOf, value}
+use Rattle.dup_template.specs.declared.value.Value.{Value}
+use Rattle.dup_model.specs.Content.{Content, value}
 use Rattle.dup_model.specs.Skeletons.{reads}
 use Rattle.dup_model.specs.Touched.{same_value, differs}
 use Rattle.dup_model.specs.Expansions.{notes, stale}
@@ -24,13 +24,13 @@ none_differs c d (it ∷ its) h =
     rw (none_differs c d its h.1) (ap (λ v. not (same_value (value c it) v) || false) h.0 ∙ ap (λ b. not b || false) (value_itself (value c it)))
 
 pub expansions_good : ExpansionsAreGood
-expansions_good site c of o = record {
+expansions_good c o = record {
   items = λ d is h. items_of c (reads c o) ∙ (same d is h).reads;
   gives = λ d is h. sym (same d is h).skeleton;
 }
   where
-    same : (d : Content) → IsOf site d → Holds d (notes c o) → IsSameAlone c d o
-    same d is h = untouched_same c d o (of.frame ∙ sym is.frame) (of.bodies ∙ sym is.bodies) (none_differs c d (reads c o) h)
+    same : (d : Content) → d.frame ≡ c.frame → Holds d (notes c o) → IsSameAlone c d o
+    same d is h = untouched_same c d o (sym is) (none_differs c d (reads c o) h)
 
 holds : (c : Content) (ns : List (Item × Value)) → stale c ns ≡ None → Holds c ns
 holds c [] h = tt

@@ -7,8 +7,9 @@ use Rattle.std.proofs.lemmas.Bool.Decides.{eqb_tells}
 use Rattle.dup_names.specs.Order.{obj_cmp}
 use Rattle.dup_names.specs.declared.object.Obj.{Obj}
 use Rattle.dup_names.specs.declared.object.Item.{Item}
-use Rattle.dup_names.specs.declared.value.Value.{Value}
-use Rattle.dup_names.specs.declared.value.Value.TheVariants as seen
+use Rattle.dup_template.specs.SameStatement.{body-Decides}
+use Rattle.dup_template.specs.declared.value.Value.{Value}
+use Rattle.dup_template.specs.declared.value.Value.TheVariants as seen
 use Rattle.dup_names.specs.Words.{Path, Word, in_order, same}
 use Rattle.dup_model.specs.Content.{Content, value}
 use Rattle.dup_model.specs.Skeletons.{embeds, reads}
@@ -146,6 +147,7 @@ value_itself (seen.Text w) = (bytes_eq-Decides w w).1 refl
 value_itself (seen.Exists true) = refl
 value_itself (seen.Exists false) = refl
 value_itself (seen.Keys ks) = keys_itself ks
+value_itself (seen.Body body) = (body-Decides body body).1 refl
 
 none_stale : (c : Content) (its : List Item) → stale c (map (λ it. (it, value c it)) its) ≡ None
 none_stale c [] = refl

@@ -7,8 +7,10 @@ use Rattle.std.proofs.lemmas.List.{take-append-le}
 use Rattle.std.proofs.Math.Seq.{take-length}
 use Rattle.dup_template.specs.declared.site.Parts.{Parts}
 use Rattle.dup_model.specs.declared.edit.Edit.{Edit}
-use Rattle.dup_model.specs.declared.edit.Edit.TheVariants.{Put, Remove}
-use Rattle.dup_model.specs.Content.{Content, IsOf}
+use Rattle.dup_model.specs.declared.edit.Edit.TheVariants.{Put, Remove, Replace}
+use Rattle.std.specs.List.{AllByRecursion}
+use Rattle.dup_model.specs.Tables.{AreOfRows, IsOfRow, VersionsAreOfTheSite, VersionsHaveTheFrame}
+use Rattle.dup_model.specs.Content.{Content}
 use Rattle.dup_model.specs.Commits.{Commit, edited, after, edit_misfit, no_room, misfit_from, refusal_from, misfit, refusal}
 use Rattle.dup_model.specs.Content.{start}
 use Rattle.dup_model.specs.Versions.{content, IsHistory}
@@ -19,41 +21,49 @@ use Rattle.dup_model.specs.Editions.{target_looks}
 use Rattle.dup_model.proofs.Lists.{get_snoc, get_take, take_take}
 use Rattle.dup_model.proofs.Targets.{target_sound}
 
--- two contents of one site
-abbrev AreOfOne : Content → Content → Type 0
-AreOfOne c d = (c.frame ≡ d.frame) × (c.bodies ≡ d.bodies)
+-- the frame stays
+edited_frame : (c : Content) (e : Edit) → (edited c e).frame ≡ c.frame
+edited_frame c (Put kind key fields) = refl
+edited_frame c (Remove kind key) = refl
+edited_frame c (Replace template body) = refl
 
-edited_site : (c : Content) (e : Edit) → AreOfOne (edited c e) c
-edited_site c (Put kind key fields) = (refl, refl)
-edited_site c (Remove kind key) = (refl, refl)
+pub after_frame : (c : Content) (es : Commit) → (after c es).frame ≡ c.frame
+after_frame c [] = refl
+after_frame c (e ∷ es) = after_frame (edited c e) es ∙ edited_frame c e
 
-after_site : (c : Content) (es : Commit) → AreOfOne (after c es) c
-after_site c [] = (refl, refl)
-after_site c (e ∷ es) =
-    let rest : AreOfOne (after (edited c e) es) (edited c e) = after_site (edited c e) es in
-    let one : AreOfOne (edited c e) c = edited_site c e in
-    (rest.0 ∙ one.0, rest.1 ∙ one.1)
+frame_after : (c : Content) (commits : List Commit) → (fold after c commits).frame ≡ c.frame
+frame_after c [] = refl
+frame_after c (commit ∷ commits) = frame_after (after c commit) commits ∙ after_frame c commit
 
-site_after : (c : Content) (commits : List Commit) → AreOfOne (fold after c commits) c
-site_after c [] = (refl, refl)
-site_after c (commit ∷ commits) =
-    let rest : AreOfOne (fold after (after c commit) commits) (after c commit) = site_after (after c commit) commits in
-    let one : AreOfOne (after c commit) c = after_site c commit in
-    (rest.0 ∙ one.0, rest.1 ∙ one.1)
+pub content_frame : VersionsHaveTheFrame
+content_frame site commits = frame_after (start site) commits
 
--- each version is of the site
-pub content_of : (site : Parts) (commits : List Commit) → IsOf site (content site commits)
-content_of site commits = let both : AreOfOne (content site commits) (start site) = site_after (start site) commits in record { frame = both.0; bodies = both.1 }
+-- the bodies stay where no change is of a body
+edited_bodies : (c : Content) (e : Edit) → IsOfRow e → (edited c e).bodies ≡ c.bodies
+edited_bodies c (Put kind key fields) of = refl
+edited_bodies c (Remove kind key) of = refl
+edited_bodies c (Replace template body) of = absurd of
+
+pub after_bodies : (c : Content) (es : Commit) → AllByRecursion IsOfRow es → (after c es).bodies ≡ c.bodies
+after_bodies c [] of = refl
+after_bodies c (e ∷ es) of = after_bodies (edited c e) es of.1 ∙ edited_bodies c e of.0
+
+bodies_after : (c : Content) (commits : List Commit) → AreOfRows commits → (fold after c commits).bodies ≡ c.bodies
+bodies_after c [] of = refl
+bodies_after c (commit ∷ commits) of = bodies_after (after c commit) commits of.1 ∙ after_bodies c commit of.0
+
+pub content_of : VersionsAreOfTheSite
+content_of site commits of = record { frame = content_frame site commits; bodies = bodies_after (start site) commits of }
 
 -- the target of each version is sound
 pub version_sound : (site : Parts) (commits : List Commit) → IsSound (target_looks (target (content site commits)))
 version_sound site commits = target_sound (content site commits)
 
-or_none : {A : Type 0} (a b : Option A) → option_or a b ≡ None → (a ≡ None) × (b ≡ None)
+pub or_none : {A : Type 0} (a b : Option A) → option_or a b ≡ None → (a ≡ None) × (b ≡ None)
 or_none None b is = (refl, is)
 or_none (Some x) b is = absurd (none-some x (sym is))
 
-fits_from : (es : Commit) (n : ℕ) (c : Content) (rows : ℕ) → refusal_from n c es rows ≡ None → misfit_from n c es ≡ None
+pub fits_from : (es : Commit) (n : ℕ) (c : Content) (rows : ℕ) → refusal_from n c es rows ≡ None → misfit_from n c es ≡ None
 fits_from [] n c rows is = refl
 fits_from (e ∷ es) n c rows is =
     let both : (option_or (edit_misfit c n e) (no_room c rows n e) ≡ None) × (refusal_from (1 + n) (edited c e) es rows ≡ None) = or_none _ _ is in

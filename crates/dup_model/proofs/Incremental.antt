@@ -6,8 +6,9 @@ use Rattle.std.proofs.lemmas.Bool.Decides.{eqb_tells}
 use Rattle.std.proofs.lemmas.Slice.Eq.{bytes_eq-Decides}
 use Rattle.dup_names.specs.Order.{text_cmp, obj_cmp, item_cmp}
 use Rattle.dup_names.specs.declared.object.Obj.{Obj}
-use Rattle.dup_names.specs.declared.value.Value.{Value}
-use Rattle.dup_names.specs.declared.value.Value.TheVariants as seen
+use Rattle.dup_template.specs.SameStatement.{body-Decides}
+use Rattle.dup_template.specs.declared.value.Value.{Value}
+use Rattle.dup_template.specs.declared.value.Value.TheVariants as seen
 use Rattle.dup_model.specs.declared.mark.Mark.{Mark}
 use Rattle.dup_model.specs.declared.mark.Mark.TheVariants as mark
 use Rattle.dup_names.specs.Words.{Word, in_order, same}
@@ -47,6 +48,13 @@ value_same (seen.Exists a) (seen.Keys b) is = absurd (true≢false (sym is))
 value_same (seen.Keys a) (seen.Text b) is = absurd (true≢false (sym is))
 value_same (seen.Keys a) (seen.Exists b) is = absurd (true≢false (sym is))
 value_same (seen.Keys a) (seen.Keys b) is = ap seen.Keys (list_same same word_same a b is)
+value_same (seen.Body a) (seen.Body b) is = ap seen.Body ((body-Decides a b).0 is)
+value_same (seen.Text a) (seen.Body b) is = absurd (true≢false (sym is))
+value_same (seen.Exists a) (seen.Body b) is = absurd (true≢false (sym is))
+value_same (seen.Keys a) (seen.Body b) is = absurd (true≢false (sym is))
+value_same (seen.Body a) (seen.Text b) is = absurd (true≢false (sym is))
+value_same (seen.Body a) (seen.Exists b) is = absurd (true≢false (sym is))
+value_same (seen.Body a) (seen.Keys b) is = absurd (true≢false (sym is))
 
 -- an object by itself
 
@@ -64,16 +72,15 @@ module _ (a b : Content) where
       (value_same (value a it) (value b it) (not-false _ both.0), none_same ms both.1)
   none_same (mark.Goes q ∷ ms) h = (tt, none_same ms h)
 
-  marks_same : a.frame ≡ b.frame → a.bodies ≡ b.bodies → (o : Obj) → AreSame a b (marks a o) → marks a o ≡ marks b o
-  marks_same one two o =
-      subst (λ l. let d : Content = record { frame = b.frame; bodies = l; tables = b.tables } in AreSame a d (marks a o) → marks a o ≡ marks d o) two
-      (subst (λ f. let d : Content = record { frame = f; bodies = a.bodies; tables = b.tables } in AreSame a d (marks a o) → marks a o ≡ marks d o) one
-      (marks-same a.frame a.bodies a.tables b.tables o))
+  marks_same : a.frame ≡ b.frame → (o : Obj) → AreSame a b (marks a o) → marks a o ≡ marks b o
+  marks_same one o =
+      subst (λ f. let d : Content = record { frame = f; bodies = b.bodies; tables = b.tables } in AreSame a d (marks a o) → marks a o ≡ marks d o) one
+      (marks-same a.frame a.bodies b.bodies a.tables b.tables o)
 
-  module _ (one : a.frame ≡ b.frame) (two : a.bodies ≡ b.bodies) where
+  module _ (one : a.frame ≡ b.frame) where
     pub untouched_marks : (o : Obj) → touched a b o ≡ false → marks a o ≡ marks b o
     untouched_marks o h =
-        marks_same one two o (none_same (marks a o)
+        marks_same one o (none_same (marks a o)
         (sym (any_in_order item_cmp (differs a b) (λ x y tie. ap (differs a b) (item_tied x y tie)) (flat_map read_by (marks a o))) ∙ h))
 
     -- all that it embeds
@@ -191,8 +198,8 @@ module _ (a b : Content) where
           λ i. record { obj = o; bytes = bytes i; uses = us i; links = in_order text_cmp (ls i) }
 
 pub untouched_same : UntouchedIsSame
-untouched_same a b o one two h =
-    let m : marks a o ≡ marks b o = untouched_marks a b one two o h in
+untouched_same a b o one h =
+    let m : marks a o ≡ marks b o = untouched_marks a b one o h in
     record {
       marks = m;
       reads = ap (λ ms. in_order item_cmp (flat_map read_by ms)) m;
@@ -202,4 +209,4 @@ untouched_same a b o one two h =
     }
 
 pub unaffected_same : UnaffectedLooksSame
-unaffected_same a b o one two h = same_look_at a b one two o h
+unaffected_same a b o one h = same_look_at a b one o h

@@ -9,6 +9,10 @@ use Rattle.dup_template.specs.declared.statement.Statement.TheVariants as s
 use Rattle.dup_template.specs.declared.statement.Statement.TheVariants.{rolls-Say, rolls-Nl, rolls-Field, rolls-Key, rolls-If, rolls-Each, rolls-Embed, rolls-Link}
 use Rattle.dup_template.specs.declared.statement.Statement.TheFolds.{ind-Statement, map-Statement}
 
+-- a form of statement, with what a fold gives of each statement within it, of which an induction knows P
+abbrev pub within : (P : Statement → Type 0) (X : Type 0) → (Statement → X) → Statement-F ((x : Statement) × P x) → Statement-F X
+within P X f y = map-Statement Statement X f (map-Statement ((x : Statement) × P x) Statement (λ e. e.0) y)
+
 pub record ByForms (P : Statement → Type 0) : Type 0 where
   pub say : (words : Word) → P (s.Say words)
   pub nl : P s.Nl

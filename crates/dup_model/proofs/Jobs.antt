@@ -32,6 +32,7 @@ use Rattle.dup_names.specs.Objects.{is_in, same_obj}
 use Rattle.dup_model.specs.Found.{found}
 use Rattle.dup_model.specs.Jobs.{is_template, IsJob, all_fit, fits_step, statement_fits, body_fits, page_fits, JobsFit, FoundAreJobs}
 use Rattle.dup_model.proofs.EachMark.{all_append}
+use Rattle.dup_model.proofs.Induction.{within}
 use Rattle.dup_names.proofs.ObjectOrder.{obj_same}
 use Rattle.dup_model.proofs.Ordering.{all_in_order}
 use Rattle.dup_model.proofs.Earlier.{down_at, down_past}
@@ -107,31 +108,13 @@ module _ (c : Content) where
   all_link name (Some kind) None xs h = h
   all_link name (Some kind) (Some key) xs h = (tt, all_linked (if is_some (row c kind key) then page_path c.frame name (Some key) else None) xs h)
 
-  abbrev below : Statement-F Kid → Statement-F (Here → List Mark)
-  below (Statement-F.Say w) = Statement-F.Say w
-  below Statement-F.Nl = Statement-F.Nl
-  below (Statement-F.Field n) = Statement-F.Field n
-  below Statement-F.Key = Statement-F.Key
-  below (Statement-F.If n body) = Statement-F.If n (map (statement_marks c) (map (λ k. k.0) body))
-  below (Statement-F.Each n by order body) = Statement-F.Each n by order (map (statement_marks c) (map (λ k. k.0) body))
-  below (Statement-F.Embed n via) = Statement-F.Embed n via
-  below (Statement-F.Link n via body) = Statement-F.Link n via (map (statement_marks c) (map (λ k. k.0) body))
-
-  abbrev tests_below : Statement-F Kid → Statement-F (Bool → Bool)
-  tests_below (Statement-F.Say w) = Statement-F.Say w
-  tests_below Statement-F.Nl = Statement-F.Nl
-  tests_below (Statement-F.Field n) = Statement-F.Field n
-  tests_below Statement-F.Key = Statement-F.Key
-  tests_below (Statement-F.If n body) = Statement-F.If n (map (statement_fits c.frame) (map (λ k. k.0) body))
-  tests_below (Statement-F.Each n by order body) = Statement-F.Each n by order (map (statement_fits c.frame) (map (λ k. k.0) body))
-  tests_below (Statement-F.Embed n via) = Statement-F.Embed n via
-  tests_below (Statement-F.Link n via body) = Statement-F.Link n via (map (statement_fits c.frame) (map (λ k. k.0) body))
-
   from_none : (o : Option Word) (b : Bool) → (is_none o || b) ≡ true → is_some o ≡ true → b ≡ true
   from_none None b h some = absurd (true≢false (sym some))
   from_none (Some x) b h some = h
 
-  step : (y : Statement-F Kid) (in_row : Bool) (here : Here) → InRow in_row here → fits_step c.frame (tests_below y) in_row ≡ true → All (marks_step c (below y) here)
+  step : (y : Statement-F Kid) (in_row : Bool) (here : Here) → InRow in_row here →
+      fits_step c.frame (within Fine (Bool → Bool) (statement_fits c.frame) y) in_row ≡ true →
+      All (marks_step c (within Fine (Here → List Mark) (statement_marks c) y) here)
   step (Statement-F.Say w) in_row here row fits = (tt, tt)
   step Statement-F.Nl in_row here row fits = (tt, tt)
   step (Statement-F.Field n) in_row here row fits = all_on_key here.key (field_marks c here.kind n) (λ key. (tt, (tt, tt)))
@@ -158,14 +141,7 @@ module _ (c : Content) where
       ))
 
   from_step : (y : Statement-F Kid) → Fine (roll-Statement (map-Statement Kid Statement (λ e. e.0) y))
-  from_step (Statement-F.Say w) = rw (fold-roll-Statement, fold-roll-Statement) (step (Statement-F.Say w))
-  from_step Statement-F.Nl = rw (fold-roll-Statement, fold-roll-Statement) (step Statement-F.Nl)
-  from_step (Statement-F.Field n) = rw (fold-roll-Statement, fold-roll-Statement) (step (Statement-F.Field n))
-  from_step Statement-F.Key = rw (fold-roll-Statement, fold-roll-Statement) (step Statement-F.Key)
-  from_step (Statement-F.If n body) = rw (fold-roll-Statement, fold-roll-Statement) (step (Statement-F.If n body))
-  from_step (Statement-F.Each n by order body) = rw (fold-roll-Statement, fold-roll-Statement) (step (Statement-F.Each n by order body))
-  from_step (Statement-F.Embed n via) = rw (fold-roll-Statement, fold-roll-Statement) (step (Statement-F.Embed n via))
-  from_step (Statement-F.Link n via body) = rw (fold-roll-Statement, fold-roll-Statement) (step (Statement-F.Link n via body))
+  from_step y = rw (fold-roll-Statement, fold-roll-Statement) (step y)
 
   statement_all : (s : Statement) → Fine s
   statement_all = ind-Statement Fine (λ x y is. subst (λ z. Fine (roll-Statement z)) is (from_step y))
@@ -178,7 +154,7 @@ module _ (c : Content) where
 
   module _ (fit : JobsFit c) where
     holes_fit : (o : Obj) → IsJob c.frame o → All (marks c o)
-    holes_fit o job = body_all (body_at c o.template) (is_some (kind_of c.frame o.template)) (here_at c o) (λ h. job.keyed ∙ h) (fit.bodies o.template)
+    holes_fit o job = (tt, body_all (body_at c o.template) (is_some (kind_of c.frame o.template)) (here_at c o) (λ h. job.keyed ∙ h) (fit.bodies o.template))
 
     holes_of : (ms : List Mark) → All ms → AllByRecursion (IsJob c.frame) (flat_map hole_of ms)
     holes_of [] all = tt

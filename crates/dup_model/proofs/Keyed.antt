@@ -15,7 +15,7 @@ use Rattle.dup_template.specs.Paths.{KeyOk}
 use Rattle.dup_template.specs.declared.statement.Statement.{Statement}
 use Rattle.dup_template.specs.declared.statement.Statement.TheVariants as s
 use Rattle.dup_model.specs.declared.edit.Edit.{Edit}
-use Rattle.dup_model.specs.declared.edit.Edit.TheVariants.{Put, Remove}
+use Rattle.dup_model.specs.declared.edit.Edit.TheVariants.{Put, Remove, Replace}
 use Rattle.dup_model.specs.declared.mark.Mark.{Mark}
 use Rattle.dup_model.specs.declared.mark.Mark.TheVariants as mark
 use Rattle.dup_model.specs.Content.{Content, Entry, Table, start, table, text, texts_at, keys, group, body_at}
@@ -164,7 +164,7 @@ module _ (c : Content) (keyed : KeysAreKeys c) where
           (fine, of_link_via name (text c here.kind k (field_at c.frame here.kind via)) (kind_named c.frame name) (body_marks c body here) (of_body body each here ok))))
 
   marks_fit : (o : Obj) → KeyOk o.key → All (marks c o)
-  marks_fit o ok = of_body (body_at c o.template) (all_by_forms Fine forms (body_at c o.template)) (here_at c o) ok
+  marks_fit o ok = (refl, of_body (body_at c o.template) (all_by_forms Fine forms (body_at c o.template)) (here_at c o) ok)
 
   reads_of : (ms : List Mark) → All ms → AllByRecursion (λ it. IsTrue (is_item it)) (flat_map read_by ms)
   reads_of [] all = tt
@@ -198,12 +198,13 @@ edited_keyed : (c : Content) (e : Edit) → EditHasKey e → KeysAreKeys c → K
 edited_keyed c (Put name key fields) fine all = keyed_set c.tables (kind_at c.frame name) _ all (keyed_put _ (table c (kind_at c.frame name)) fine (rows_at c.tables (kind_at c.frame name) all))
 edited_keyed c (Remove name key) fine all =
     keyed_set c.tables (kind_at c.frame name) _ all (filtered_rows (λ e. not (same e.0 key)) (table c (kind_at c.frame name)) (rows_at c.tables (kind_at c.frame name) all))
+edited_keyed c (Replace name body) fine all = all
 
 after_keyed : (c : Content) (es : Commit) → AllByRecursion EditHasKey es → KeysAreKeys c → KeysAreKeys (after c es)
 after_keyed c [] fine all = all
 after_keyed c (e ∷ es) fine all = after_keyed (edited c e) es fine.1 (edited_keyed c e fine.0 all)
 
-fold_keyed : (commits : List Commit) (c : Content) → AllByRecursion (λ commit. AllByRecursion EditHasKey commit) commits → KeysAreKeys c → KeysAreKeys (fold after c commits)
+pub fold_keyed : (commits : List Commit) (c : Content) → AllByRecursion (λ commit. AllByRecursion EditHasKey commit) commits → KeysAreKeys c → KeysAreKeys (fold after c commits)
 fold_keyed [] c fine all = all
 fold_keyed (commit ∷ commits) c fine all = fold_keyed commits (after c commit) fine.1 (after_keyed c commit fine.0 all)
 

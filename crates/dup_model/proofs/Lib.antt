@@ -31,6 +31,7 @@ pub mod SiteRules
 pub mod Computed
 pub mod Induction
 pub mod GoodSites
+pub mod GoodVersions
 pub mod ChangedItems
 pub mod Keyed
 pub mod FoundWords
@@ -39,3 +40,4 @@ pub mod Rising
 pub mod SameWords
 pub mod Columns
 pub mod LooksFromParts
+pub mod SameLooks

@@ -4,15 +4,14 @@ use Rattle.std.specs.Prelude.{Option, Some, None}
 use Rattle.std.specs.Option.{option_or}
 use Rattle.dup_names.specs.Words.{Word}
 use Rattle.dup_template.specs.declared.refusal.What.TheVariants.{Nesting}
-use Rattle.dup_template.specs.declared.site.Parts.{Parts}
-use Rattle.dup_template.specs.declared.site.TemplatePart.{TemplatePart}
+use Rattle.dup_template.specs.Frame.{Frame, Head}
 use Rattle.dup_template.specs.declared.statement.Statement.{Statement}
 use Rattle.dup_template.specs.declared.statement.Statement.TheVariants as s
 use Rattle.dup_template.specs.declared.statement.Statement.TheVariants.{rolls-Say, rolls-Nl, rolls-Field, rolls-Key, rolls-If, rolls-Each, rolls-Embed, rolls-Link}
 use Rattle.dup_template.specs.declared.statement.Statement.TheFolds.{fold-roll-Statement}
 use Rattle.dup_template.specs.Good.{Fault, at_most, statement_fault, body_fault, field_fault, key_fault, each_fault, embed_fault, link_fault, find_template}
 
-module _ (site : Parts) (earlier : List TemplatePart) (own : Word) (kind : Option Word) (depth : ℕ) where
+module _ (site : Frame) (earlier : List Head) (own : Word) (kind : Option Word) (depth : ℕ) where
   abbrev deep : Fault → Fault
   deep fault = option_or (at_most 8 Nesting depth) fault
 

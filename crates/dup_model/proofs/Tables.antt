@@ -10,7 +10,7 @@ use Rattle.std.specs.Cmp.Lexicographic.{nat_list_cmp_total}
 use Rattle.std.specs.FinMap as fin
 use Rattle.dup_names.specs.Order.{text_cmp}
 use Rattle.dup_model.specs.declared.edit.Edit.{Edit}
-use Rattle.dup_model.specs.declared.edit.Edit.TheVariants.{Put, Remove}
+use Rattle.dup_model.specs.declared.edit.Edit.TheVariants.{Put, Remove, Replace}
 use Rattle.dup_names.specs.Words.{Word, same}
 use Rattle.dup_model.specs.Content.{Content, Entry, Table, table}
 use Rattle.dup_model.specs.Names.{kind_at}
@@ -73,6 +73,7 @@ edited_rises : (c : Content) (e : Edit) → TablesRise c → TablesRise (edited 
 edited_rises c (Put name key fields) all = rising_set c.tables (kind_at c.frame name) _ all (rising_put _ (table c (kind_at c.frame name)) (rising_at c.tables (kind_at c.frame name) all))
 edited_rises c (Remove name key) all =
     rising_set c.tables (kind_at c.frame name) _ all (rising_filter (λ e. not (same e.0 key)) (table c (kind_at c.frame name)) (rising_at c.tables (kind_at c.frame name) all))
+edited_rises c (Replace name body) all = all
 
 after_rises : (c : Content) (es : Commit) → TablesRise c → TablesRise (after c es)
 after_rises c [] all = all
@@ -98,6 +99,7 @@ length_set (x ∷ xs) (suc k) t = ap suc (length_set xs k t)
 edited_tables : (c : Content) (e : Edit) → length (edited c e).tables ≡ length c.tables
 edited_tables c (Put name key fields) = length_set c.tables (kind_at c.frame name) _
 edited_tables c (Remove name key) = length_set c.tables (kind_at c.frame name) _
+edited_tables c (Replace name body) = refl
 
 after_tables : (c : Content) (es : Commit) → length (after c es).tables ≡ length c.tables
 after_tables c [] = refl

@@ -7,7 +7,7 @@ use Rattle.dup_names.specs.declared.object.Item.{Item}
 use Rattle.dup_template.specs.Paths.{KeyOk}
 use Rattle.dup_template.specs.declared.site.Parts.{Parts}
 use Rattle.dup_model.specs.declared.edit.Edit.{Edit}
-use Rattle.dup_model.specs.declared.edit.Edit.TheVariants.{Put, Remove}
+use Rattle.dup_model.specs.declared.edit.Edit.TheVariants.{Put, Remove, Replace}
 use Rattle.dup_model.specs.Content.{Content}
 use Rattle.dup_model.specs.Commits.{Commit}
 use Rattle.dup_model.specs.Versions.{content}
@@ -25,6 +25,7 @@ KeysAreKeys c = AllByRecursion (λ rows. AllByRecursion (λ e. IsTrue (is_key e.
 abbrev pub EditHasKey : Edit → Type 0
 EditHasKey (Put kind key fields) = IsTrue (is_key key)
 EditHasKey (Remove kind key) = IsTrue (is_key key)
+EditHasKey (Replace template body) = Unit {0}
 
 -- changes whose keys are keys keep it so
 abbrev pub VersionsHaveKeys : Type 0

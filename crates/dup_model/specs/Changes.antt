@@ -1,30 +1,34 @@
 -- What a change makes of the rows, in words. The law above: `commits_law`.
-use Rattle.std.specs.Prelude.{◌≡◌, ◌<◌, ◌==◌, ℕ, false, List, ◌∷◌, ◌++◌, Some, None, length}
+use Rattle.std.specs.Prelude.{◌≡◌, ◌<◌, ◌==◌, ℕ, Bool, false, List, ◌∷◌, ◌++◌, Some, None, length}
 use Rattle.std.specs.List.{list_any, slice_get}
 use Rattle.std.specs.Option.{unwrap_or}
 use Rattle.dup_names.specs.Words.{Word, same, place}
 use Rattle.dup_model.specs.declared.edit.Edit.{Edit}
-use Rattle.dup_model.specs.declared.edit.Edit.TheVariants.{Put, Remove}
-use Rattle.dup_model.specs.Content.{Content, row}
-use Rattle.dup_model.specs.Names.{kind_at, fields_at}
+use Rattle.dup_model.specs.declared.edit.Edit.TheVariants.{Put, Remove, Replace}
+use Rattle.dup_model.specs.Content.{Content, body_at, row}
+use Rattle.dup_template.specs.Frame.{Frame}
+use Rattle.dup_template.specs.declared.statement.Statement.{Statement}
+use Rattle.dup_model.specs.Names.{kind_at, fields_at, template_at}
 use Rattle.dup_model.specs.Commits.{edited, with_fields, blank}
 
--- the kind and the key of a change
-abbrev pub kind_in : Edit → Word
-kind_in (Put kind key fields) = kind
-kind_in (Remove kind key) = kind
+-- a change of the row of this kind under this key
+abbrev pub is_of_kind : Frame → Edit → ℕ → Bool
+is_of_kind frame (Put name key fields) kind = kind_at frame name == kind
+is_of_kind frame (Remove name key) kind = kind_at frame name == kind
+is_of_kind frame (Replace template body) kind = false
 
-abbrev pub key_in : Edit → Word
-key_in (Put kind key fields) = key
-key_in (Remove kind key) = key
+abbrev pub is_of_key : Edit → Word → Bool
+is_of_key (Put kind own fields) key = same own key
+is_of_key (Remove kind own) key = same own key
+is_of_key (Replace template body) key = false
 
 -- the rows of other kinds, and under other keys, stay
 abbrev pub OtherKindsStay : Type 0
-OtherKindsStay = (c : Content) (e : Edit) (kind : ℕ) (key : Word) → (kind ≡ kind_at c.frame (kind_in e) → ⊥) →
+OtherKindsStay = (c : Content) (e : Edit) (kind : ℕ) (key : Word) → is_of_kind c.frame e kind ≡ false →
     row (edited c e) kind key ≡ row c kind key
 
 abbrev pub OtherRowsStay : Type 0
-OtherRowsStay = (c : Content) (e : Edit) (kind : ℕ) (key : Word) → same (key_in e) key ≡ false →
+OtherRowsStay = (c : Content) (e : Edit) (kind : ℕ) (key : Word) → is_of_key e key ≡ false →
     row (edited c e) kind key ≡ row c kind key
 
 -- after a put the row is there, made of its old texts or of empty ones, with the named fields set
@@ -52,3 +56,14 @@ OtherFieldsStay = (names : List Word) (fields : List (Word × Word)) (texts : Li
 abbrev pub RemoveTakesTheRow : Type 0
 RemoveTakesTheRow = (c : Content) (name key : Word) →
     row (edited c (Remove name key)) (kind_at c.frame name) key ≡ None
+
+-- after a new body the template has it, the other templates keep theirs, and the rows stay
+abbrev pub BodyIsReplaced : Type 0
+BodyIsReplaced = (c : Content) (name : Word) (body : List Statement) →
+    template_at c.frame name < length c.bodies →
+    body_at (edited c (Replace name body)) (template_at c.frame name) ≡ body
+
+abbrev pub OtherBodiesStay : Type 0
+OtherBodiesStay = (c : Content) (name : Word) (body : List Statement) (template : ℕ) →
+    (template ≡ template_at c.frame name → ⊥) →
+    body_at (edited c (Replace name body)) template ≡ body_at c template

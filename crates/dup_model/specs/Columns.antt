@@ -10,6 +10,7 @@ use Rattle.dup_names.specs.declared.object.Item.TheVariants as item
 use Rattle.dup_names.specs.declared.object.Obj.{Obj}
 use Rattle.dup_template.specs.declared.statement.Statement.{Statement}
 use Rattle.dup_template.specs.declared.statement.Statement.TheVariants as s
+use Rattle.dup_model.specs.declared.mark.Mark.{Mark}
 use Rattle.dup_model.specs.Content.{Content, body_at, group, keys, text}
 use Rattle.dup_model.specs.Here.{Here, row_at}
 use Rattle.dup_model.specs.Links.{target_path}
@@ -19,24 +20,19 @@ use Rattle.dup_model.specs.Shows.{object_named}
 use Rattle.dup_model.specs.Skeletons.{embeds, goes, goes_by, hole_of, read_by, reads}
 use Rattle.dup_model.specs.Turns.{rows_by}
 
--- what a statement, and a body, read, embed and link to
+-- what a statement, and a body, add to a column: what each of their marks adds, one after another
+abbrev pub statement_adds : {A : Type 0} → (Mark → List A) → Content → Statement → Here → List A
+statement_adds by_mark c statement here = flat_map by_mark (statement_marks c statement here)
+
+abbrev pub body_adds : {A : Type 0} → (Mark → List A) → Content → List Statement → Here → List A
+body_adds by_mark c body here = flat_map by_mark (body_marks c body here)
+
+-- what a statement, and a body, read
 abbrev pub statement_reads : Content → Statement → Here → List Item
-statement_reads c statement here = flat_map read_by (statement_marks c statement here)
+statement_reads = statement_adds read_by
 
 abbrev pub body_reads : Content → List Statement → Here → List Item
-body_reads c body here = flat_map read_by (body_marks c body here)
-
-abbrev pub statement_embeds : Content → Statement → Here → List Obj
-statement_embeds c statement here = flat_map hole_of (statement_marks c statement here)
-
-abbrev pub body_embeds : Content → List Statement → Here → List Obj
-body_embeds c body here = flat_map hole_of (body_marks c body here)
-
-abbrev pub statement_goes : Content → Statement → Here → List Path
-statement_goes c statement here = flat_map goes_by (statement_marks c statement here)
-
-abbrev pub body_goes : Content → List Statement → Here → List Path
-body_goes c body here = flat_map goes_by (body_marks c body here)
+body_reads = body_adds read_by
 
 -- to order rows by a field is to read it of each
 abbrev pub order_items : Content → ℕ → Option Word → List Word → List Item
@@ -56,7 +52,8 @@ path_in (Some path) = path ∷ []
 
 -- the column "Reads"; `row_at kind (Some key)` is a current row
 pub record ReadsEach (c : Content) : Type 0 where
-  pub object : (o : Obj) → reads c o ≡ in_order item_cmp (body_reads c (body_at c o.template) (here_at c o))
+  pub object : (o : Obj) → reads c o ≡ in_order item_cmp
+      (item.Template o.template ∷ body_reads c (body_at c o.template) (here_at c o))
   pub no_statement : (here : Here) → body_reads c [] here ≡ []
   pub one_after_another : (first : Statement) (rest : List Statement) (here : Here) →
       body_reads c (first ∷ rest) here ≡ statement_reads c first here ++ body_reads c rest here
@@ -96,75 +93,58 @@ pub record ReadsEach (c : Content) : Type 0 where
       ∷ ((if is_key to then target_items (kind_named c.frame name) (Some to) else [])
       ++ body_reads c body (row_at kind (Some key)))
 
--- which objects each kind of statement embeds
-pub record EmbedsEach (c : Content) : Type 0 where
-  pub object : (o : Obj) → embeds c o ≡ in_order obj_cmp (body_embeds c (body_at c o.template) (here_at c o))
-  pub no_statement : (here : Here) → body_embeds c [] here ≡ []
+-- a column without what is read: an embedding adds this of its object and a link adds this of its target's
+-- path, if there is one, before its body; what else a statement adds is what its body adds
+pub record AddsEach {A : Type 0} (by_mark : Mark → List A) (embedding : Obj → List A)
+    (linking : Option Path → List A) (c : Content) : Type 0 where
+  pub no_statement : (here : Here) → body_adds by_mark c [] here ≡ []
   pub one_after_another : (first : Statement) (rest : List Statement) (here : Here) →
-      body_embeds c (first ∷ rest) here ≡ statement_embeds c first here ++ body_embeds c rest here
-  pub say : (words : Word) (here : Here) → statement_embeds c (s.Say words) here ≡ []
-  pub nl : (here : Here) → statement_embeds c s.Nl here ≡ []
-  pub field : (name key : Word) (kind : ℕ) → statement_embeds c (s.Field name) (row_at kind (Some key)) ≡ []
-  pub key : (key : Word) (kind : ℕ) → statement_embeds c s.Key (row_at kind (Some key)) ≡ []
+      body_adds by_mark c (first ∷ rest) here
+      ≡ statement_adds by_mark c first here ++ body_adds by_mark c rest here
+  pub say : (words : Word) (here : Here) → statement_adds by_mark c (s.Say words) here ≡ []
+  pub nl : (here : Here) → statement_adds by_mark c s.Nl here ≡ []
+  pub field : (name key : Word) (kind : ℕ) →
+      statement_adds by_mark c (s.Field name) (row_at kind (Some key)) ≡ []
+  pub key : (key : Word) (kind : ℕ) → statement_adds by_mark c s.Key (row_at kind (Some key)) ≡ []
   pub if_field : (name key : Word) (kind : ℕ) (body : List Statement) →
-      statement_embeds c (s.If name body) (row_at kind (Some key))
+      statement_adds by_mark c (s.If name body) (row_at kind (Some key))
       ≡ (if length (text c kind key (field_at c.frame kind name)) == 0 then []
-      else body_embeds c body (row_at kind (Some key)))
+      else body_adds by_mark c body (row_at kind (Some key)))
   pub each : (name : Word) (order : Option Word) (body : List Statement) (here : Here) →
       let kind = kind_at c.frame name in
-      statement_embeds c (s.Each name None order body) here
-      ≡ flat_map (λ q. body_embeds c body (row_at kind (Some q))) (rows_by c kind order (keys c kind))
+      statement_adds by_mark c (s.Each name None order body) here
+      ≡ flat_map (λ q. body_adds by_mark c body (row_at kind (Some q))) (rows_by c kind order (keys c kind))
   pub each_by : (name by key : Word) (current : ℕ) (order : Option Word) (body : List Statement) →
       let kind = kind_at c.frame name in
       let rows = group c kind (field_at c.frame kind by) key in
-      statement_embeds c (s.Each name (Some by) order body) (row_at current (Some key))
-      ≡ flat_map (λ q. body_embeds c body (row_at kind (Some q))) (rows_by c kind order rows)
+      statement_adds by_mark c (s.Each name (Some by) order body) (row_at current (Some key))
+      ≡ flat_map (λ q. body_adds by_mark c body (row_at kind (Some q))) (rows_by c kind order rows)
   pub embed : (name : Word) (here : Here) →
-      statement_embeds c (s.Embed name None) here ≡ object_named c name here.key ∷ []
+      statement_adds by_mark c (s.Embed name None) here ≡ embedding (object_named c name here.key)
   pub embed_via : (name via key : Word) (kind : ℕ) →
       let to = text c kind key (field_at c.frame kind via) in
-      statement_embeds c (s.Embed name (Some via)) (row_at kind (Some key))
-      ≡ (if is_key to then object_named c name (Some to) ∷ [] else [])
+      statement_adds by_mark c (s.Embed name (Some via)) (row_at kind (Some key))
+      ≡ (if is_key to then embedding (object_named c name (Some to)) else [])
   pub link : (name : Word) (body : List Statement) (here : Here) →
-      statement_embeds c (s.Link name None body) here ≡ body_embeds c body here
+      statement_adds by_mark c (s.Link name None body) here
+      ≡ linking (target_path c name (kind_named c.frame name) here.key) ++ body_adds by_mark c body here
   pub link_via : (name via key : Word) (kind : ℕ) (body : List Statement) →
-      statement_embeds c (s.Link name (Some via) body) (row_at kind (Some key))
-      ≡ body_embeds c body (row_at kind (Some key))
+      let to = text c kind key (field_at c.frame kind via) in
+      statement_adds by_mark c (s.Link name (Some via) body) (row_at kind (Some key))
+      ≡ (if is_key to then linking (target_path c name (kind_named c.frame name) (Some to)) else [])
+      ++ body_adds by_mark c body (row_at kind (Some key))
+
+-- which objects each kind of statement embeds
+pub record EmbedsEach (c : Content) : Type 0 where
+  pub object : (o : Obj) →
+      embeds c o ≡ in_order obj_cmp (body_adds hole_of c (body_at c o.template) (here_at c o))
+  pub statements : AddsEach hole_of (λ o. o ∷ []) (λ path. []) c
 
 -- where the links of each kind of statement go
 pub record GoesEach (c : Content) : Type 0 where
-  pub object : (o : Obj) → goes c o ≡ in_order text_cmp (body_goes c (body_at c o.template) (here_at c o))
-  pub no_statement : (here : Here) → body_goes c [] here ≡ []
-  pub one_after_another : (first : Statement) (rest : List Statement) (here : Here) →
-      body_goes c (first ∷ rest) here ≡ statement_goes c first here ++ body_goes c rest here
-  pub say : (words : Word) (here : Here) → statement_goes c (s.Say words) here ≡ []
-  pub nl : (here : Here) → statement_goes c s.Nl here ≡ []
-  pub field : (name key : Word) (kind : ℕ) → statement_goes c (s.Field name) (row_at kind (Some key)) ≡ []
-  pub key : (key : Word) (kind : ℕ) → statement_goes c s.Key (row_at kind (Some key)) ≡ []
-  pub if_field : (name key : Word) (kind : ℕ) (body : List Statement) →
-      statement_goes c (s.If name body) (row_at kind (Some key))
-      ≡ (if length (text c kind key (field_at c.frame kind name)) == 0 then []
-      else body_goes c body (row_at kind (Some key)))
-  pub each : (name : Word) (order : Option Word) (body : List Statement) (here : Here) →
-      let kind = kind_at c.frame name in
-      statement_goes c (s.Each name None order body) here
-      ≡ flat_map (λ q. body_goes c body (row_at kind (Some q))) (rows_by c kind order (keys c kind))
-  pub each_by : (name by key : Word) (current : ℕ) (order : Option Word) (body : List Statement) →
-      let kind = kind_at c.frame name in
-      let rows = group c kind (field_at c.frame kind by) key in
-      statement_goes c (s.Each name (Some by) order body) (row_at current (Some key))
-      ≡ flat_map (λ q. body_goes c body (row_at kind (Some q))) (rows_by c kind order rows)
-  pub embed : (name : Word) (here : Here) → statement_goes c (s.Embed name None) here ≡ []
-  pub embed_via : (name via key : Word) (kind : ℕ) →
-      statement_goes c (s.Embed name (Some via)) (row_at kind (Some key)) ≡ []
-  pub link : (name : Word) (body : List Statement) (here : Here) →
-      statement_goes c (s.Link name None body) here
-      ≡ path_in (target_path c name (kind_named c.frame name) here.key) ++ body_goes c body here
-  pub link_via : (name via key : Word) (kind : ℕ) (body : List Statement) →
-      let to = text c kind key (field_at c.frame kind via) in
-      statement_goes c (s.Link name (Some via) body) (row_at kind (Some key))
-      ≡ (if is_key to then path_in (target_path c name (kind_named c.frame name) (Some to)) else [])
-      ++ body_goes c body (row_at kind (Some key))
+  pub object : (o : Obj) →
+      goes c o ≡ in_order text_cmp (body_adds goes_by c (body_at c o.template) (here_at c o))
+  pub statements : AddsEach goes_by (λ o. []) path_in c
 
 abbrev pub EachReads : Type 0
 EachReads = (c : Content) → ReadsEach c

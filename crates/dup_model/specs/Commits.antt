@@ -1,17 +1,20 @@
 -- Commits: what they do to a content, and why one is refused. The law above: `commits_law`.
-use Rattle.dup_names.specs.declared.limits.TheConstants.{MAX_CHANGES}
+use Rattle.dup_names.specs.declared.limits.TheConstants.{MAX_CHANGES, MAX_TEXT_BYTES}
 use Rattle.std.specs.Prelude.{ℕ, ◌+◌, ◌≤◌, Bool, true, ◌&&◌, not, List, [], ◌∷◌, map, Option, Some, None, is_some, if◌then◌else◌, nat_lt, length, IsTrue, slice_set}
 use Rattle.std.specs.List.{filter, list_all}
-use Rattle.std.specs.Option.{unwrap_or, option_or}
+use Rattle.std.specs.Option.{unwrap_or, option_map, option_or}
 use Rattle.std.specs.Ordering.{is_lt}
 use Rattle.std.specs.declared.cmp.Ordering.{Ordering}
 use Rattle.std.specs.declared.cmp.Ordering.TheVariants.{Less, Equal, Greater}
 use Rattle.dup_names.specs.Order.{text_cmp}
 use Rattle.dup_model.specs.declared.edit.Edit.{Edit}
-use Rattle.dup_model.specs.declared.edit.Edit.TheVariants.{Put, Remove}
+use Rattle.dup_model.specs.declared.edit.Edit.TheVariants.{Put, Remove, Replace}
 use Rattle.dup_names.specs.Words.{Word, same, place}
 use Rattle.dup_model.specs.Content.{Content, Table, Entry, row, table}
-use Rattle.dup_model.specs.Names.{kind_at, fields_at}
+use Rattle.dup_model.specs.Names.{kind_at, fields_at, template_at}
+use Rattle.dup_template.specs.BodyLines.{body_text, longest_of}
+use Rattle.dup_template.specs.Good.{new_body_fault}
+use Rattle.dup_template.specs.declared.refusal.SiteRefusal.{SiteRefusal}
 
 -- the changes of a commit, in order
 abbrev pub Commit : Type 0
@@ -21,7 +24,7 @@ Commit = List Edit
 abbrev pub HasCommitLength : Commit → Type 0
 HasCommitLength commit = (1 ≤ length commit) × (length commit ≤ MAX_CHANGES)
 
--- the names of a put rise strictly
+-- the names of a put rise strictly, and each line of a body fits a text
 abbrev pub rise : List (Word × Word) → Bool
 rise [] = true
 rise (f ∷ []) = true
@@ -30,6 +33,7 @@ rise (f ∷ g ∷ fs) = is_lt (text_cmp f.0 g.0) && rise (g ∷ fs)
 abbrev pub IsInOrder : Edit → Type 0
 IsInOrder (Put kind key fields) = IsTrue (rise fields)
 IsInOrder (Remove kind key) = Unit {0}
+IsInOrder (Replace template body) = longest_of (body_text body) ≤ MAX_TEXT_BYTES
 
 -- the texts of a row after the named fields are set
 abbrev pub with_fields : List Word → List (Word × Word) → List Word → List Word
@@ -52,7 +56,8 @@ with_table c kind rows = record c { tables = slice_set c.tables kind rows }
 abbrev pub blank : List Word → List Word
 blank names = map (λ _. []) names
 
--- what one change makes: a put sets the named fields, and makes the row where it is absent
+-- what one change makes: a put sets the named fields, and makes the row where it is absent; a new body stands
+-- in place of the template's
 abbrev pub edited : Content → Edit → Content
 edited c (Put name key fields) =
     let kind = kind_at c.frame name in
@@ -64,6 +69,7 @@ edited c (Put name key fields) =
 edited c (Remove name key) =
     let kind = kind_at c.frame name in
     with_table c kind (filter (λ e. not (same e.0 key)) (table c kind))
+edited c (Replace name body) = record c { bodies = slice_set c.bodies (template_at c.frame name) body }
 
 -- the changes in order
 abbrev pub after : Content → Commit → Content
@@ -77,11 +83,18 @@ pub data Refusal : Type 0 where
   NoRow : ℕ → Refusal
   KindFull : ℕ → Refusal
   JournalFull : ℕ → ℕ → Refusal  -- its commits and its bytes
+  UnknownTemplate : ℕ → Refusal
+  BadBody : ℕ → SiteRefusal → Refusal
 
 abbrev pub knows : List Word → List (Word × Word) → Bool
 knows names fields = list_all (λ f. nat_lt (place f.0 names) (length names)) fields
 
--- why the n-th change can't be made whatever the limits: the kind first, then the fields, then the row
+-- a body of a template that is there may break a rule of bodies, which look at the frame alone
+abbrev pub bad_body : ℕ → Option SiteRefusal → Option Refusal
+bad_body n fault = option_map (BadBody n) fault
+
+-- why the n-th change can't be made whatever the limits: the kind first, then the fields, then the row; the
+-- template first, then its body
 abbrev pub edit_misfit : Content → ℕ → Edit → Option Refusal
 edit_misfit c n (Put name key fields) =
     let kind = kind_at c.frame name in
@@ -91,6 +104,10 @@ edit_misfit c n (Remove name key) =
     let kind = kind_at c.frame name in
     if not (nat_lt kind (length c.frame.kinds)) then Some (UnknownKind n) else
     (if not (is_some (row c kind key)) then Some (NoRow n) else None)
+edit_misfit c n (Replace name body) =
+    let template = template_at c.frame name in
+    if not (nat_lt template (length c.frame.templates)) then Some (UnknownTemplate n) else
+    bad_body n (new_body_fault c.frame template body)
 
 -- a new row that its kind has no room for
 abbrev pub no_room : Content → ℕ → ℕ → Edit → Option Refusal
@@ -99,6 +116,7 @@ no_room c rows n (Put name key fields) =
     if not (is_some (row c kind key)) && not (nat_lt (length (table c kind)) rows) then Some (KindFull n)
     else None
 no_room c rows n (Remove name key) = None
+no_room c rows n (Replace name body) = None
 
 abbrev pub misfit_from : ℕ → Content → Commit → Option Refusal
 misfit_from n c [] = None

@@ -5,12 +5,12 @@ use Rattle.std.specs.List.{find, filter, slice_get}
 use Rattle.std.specs.Option.{option_map, unwrap_or}
 use Rattle.dup_names.specs.Words.{Word, same}
 use Rattle.dup_names.specs.declared.object.Item.{Item}
-use Rattle.dup_names.specs.declared.object.Item.TheVariants.{Field, Row, List as AllKeys, Group}
-use Rattle.dup_names.specs.declared.value.Value.{Value}
-use Rattle.dup_names.specs.declared.value.Value.TheVariants as seen
+use Rattle.dup_names.specs.declared.object.Item.TheVariants.{Field, Row, List as AllKeys, Group, Template}
+use Rattle.dup_template.specs.declared.value.Value.{Value}
+use Rattle.dup_template.specs.declared.value.Value.TheVariants as seen
 use Rattle.dup_template.specs.declared.site.Parts.{Parts}
 use Rattle.dup_template.specs.declared.statement.Statement.{Statement}
-use Rattle.dup_model.specs.Frame.{Frame, frame_of, bodies_of}
+use Rattle.dup_template.specs.Frame.{Frame, frame_of, bodies_of}
 
 -- a row: its key, and the text of each field
 abbrev pub Entry : Type 0
@@ -67,3 +67,4 @@ value c (Field kind key field) = seen.Text (text c kind key field)
 value c (Row kind key) = seen.Exists (is_some (row c kind key))
 value c (AllKeys kind) = seen.Keys (keys c kind)
 value c (Group kind field key) = seen.Keys (group c kind field key)
+value c (Template template) = seen.Body (body_at c template)

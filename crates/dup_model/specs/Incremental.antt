@@ -17,10 +17,10 @@ pub record IsSameAlone (a b : Content) (o : Obj) : Type 0 where
 
 -- an object that isn't touched is the same by itself
 abbrev pub UntouchedIsSame : Type 0
-UntouchedIsSame = (a b : Content) (o : Obj) → a.frame ≡ b.frame → a.bodies ≡ b.bodies →
+UntouchedIsSame = (a b : Content) (o : Obj) → a.frame ≡ b.frame →
     touched a b o ≡ false → IsSameAlone a b o
 
 -- an object that isn't affected has the same look
 abbrev pub UnaffectedLooksSame : Type 0
-UnaffectedLooksSame = (a b : Content) (o : Obj) → a.frame ≡ b.frame → a.bodies ≡ b.bodies →
+UnaffectedLooksSame = (a b : Content) (o : Obj) → a.frame ≡ b.frame →
     affected a b o ≡ false → look a o ≡ look b o

@@ -5,7 +5,8 @@ use Rattle.std.specs.List.{sum_by}
 use Rattle.std.specs.Option.{option_or}
 use Rattle.dup_template.specs.declared.site.Parts.{Parts}
 use Rattle.dup_model.specs.declared.edit.Edit.{Edit}
-use Rattle.dup_model.specs.declared.edit.Edit.TheVariants.{Put, Remove}
+use Rattle.dup_model.specs.declared.edit.Edit.TheVariants.{Put, Remove, Replace}
+use Rattle.dup_template.specs.BodyLines.{body_text}
 use Rattle.dup_model.specs.Commits.{Commit, Refusal, JournalFull, refusal}
 use Rattle.dup_model.specs.Versions.{content}
 
@@ -19,10 +20,11 @@ pub record Limits : Type 0 where
 abbrev pub usual_limits : Limits
 usual_limits = record { rows = MAX_ROWS; commits = MAX_COMMITS; bytes = MAX_JOURNAL_BYTES }
 
--- the bytes of a change: of its kind, key, field names and texts
+-- the bytes of a change: of its kind, key, field names and texts, or of its template and the body's lines
 abbrev pub edit_bytes : Edit → ℕ
 edit_bytes (Put kind key fields) = length kind + length key + sum_by (λ f. length f.0 + length f.1) fields
 edit_bytes (Remove kind key) = length kind + length key
+edit_bytes (Replace template body) = length template + sum_by length (body_text body)
 
 abbrev pub commit_bytes : Commit → ℕ
 commit_bytes commit = sum_by edit_bytes commit

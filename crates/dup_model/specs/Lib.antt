@@ -1,4 +1,3 @@
-pub mod Frame
 pub mod Content
 pub mod Names
 pub mod Here

@@ -3,7 +3,7 @@ use Rattle.std.specs.Prelude.{ℕ, List, [], ◌∷◌, map, Option, Some, None,
 use Rattle.dup_names.specs.Grammar.{is_key}
 use Rattle.dup_names.specs.declared.object.Item.TheVariants as item
 use Rattle.dup_names.specs.declared.object.Obj.{Obj}
-use Rattle.dup_model.specs.Frame.{Frame}
+use Rattle.dup_template.specs.Frame.{Frame}
 use Rattle.dup_template.specs.declared.statement.Statement.{Statement, fold-Statement}
 use Rattle.dup_template.specs.declared.statement.Statement.TheOpen.{Statement-F}
 use Rattle.dup_model.specs.declared.mark.Mark.{Mark}
@@ -62,6 +62,6 @@ kind_from site (Some name) = kind_at site name
 abbrev pub here_at : Content → Obj → Here
 here_at c o = record { kind = kind_from c.frame (kind_of c.frame o.template); key = o.key }
 
--- the marks of an object
+-- the marks of an object: its template is read, and then its statements' marks follow
 abbrev pub marks : Content → Obj → List Mark
-marks c o = body_marks c (body_at c o.template) (here_at c o)
+marks c o = mark.Read (item.Template o.template) ∷ body_marks c (body_at c o.template) (here_at c o)

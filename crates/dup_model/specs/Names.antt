@@ -6,7 +6,7 @@ use Rattle.std.specs.Option.{option_map, unwrap_or}
 use Rattle.dup_names.specs.Words.{Word, Path, place}
 use Rattle.dup_names.specs.declared.object.Obj.{Obj}
 use Rattle.dup_template.specs.Paths.{rule_of, path_by}
-use Rattle.dup_model.specs.Frame.{Frame}
+use Rattle.dup_template.specs.Frame.{Frame}
 
 -- the number of a kind, a field or a template by its name: the length of the list where it isn't there
 abbrev pub kind_at : Frame → Word → ℕ

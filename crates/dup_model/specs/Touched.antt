@@ -8,10 +8,11 @@ use Rattle.dup_names.specs.Order.{item_cmp}
 use Rattle.dup_names.specs.declared.object.Obj.{Obj}
 use Rattle.dup_names.specs.declared.object.Item.{Item}
 use Rattle.dup_names.specs.declared.object.Item.TheVariants as item
-use Rattle.dup_names.specs.declared.value.Value.{Value}
-use Rattle.dup_names.specs.declared.value.Value.TheVariants as seen
+use Rattle.dup_template.specs.declared.value.Value.{Value}
+use Rattle.dup_template.specs.declared.value.Value.TheVariants as seen
 use Rattle.dup_names.specs.Objects.{is_in}
 use Rattle.dup_names.specs.Words.{same}
+use Rattle.dup_template.specs.SameBody.{same_body}
 use Rattle.dup_model.specs.Content.{Content, value}
 use Rattle.dup_model.specs.Skeletons.{reads}
 use Rattle.dup_model.specs.Looks.{uses}
@@ -21,6 +22,7 @@ abbrev pub same_value : Value → Value → Bool
 same_value (seen.Text a) (seen.Text b) = same a b
 same_value (seen.Exists a) (seen.Exists b) = if a then b else not b
 same_value (seen.Keys a) (seen.Keys b) = pointwise same a b
+same_value (seen.Body a) (seen.Body b) = same_body a b
 same_value _ _ = false
 
 -- an item has another value at b than at a
@@ -33,6 +35,7 @@ is_item (item.Field kind key field) = is_key key
 is_item (item.Row kind key) = is_key key
 is_item (item.List kind) = true
 is_item (item.Group kind field key) = is_key key
+is_item (item.Template template) = true
 
 abbrev pub items_rise : List Item → Bool
 items_rise [] = true

@@ -1,7 +1,8 @@
 use dup_lists::Listed;
 use dup_names::{Key, Name, Text};
+use dup_template::SharedBody;
 
-/// What a change says: the texts of a row's named fields, or that the row goes.
+/// What a change says: the texts of a row's named fields, that the row goes, or a template's new body.
 #[derive(Debug, Drop, PartialEq, Eq)]
 pub enum Edit {
     Put {
@@ -12,5 +13,9 @@ pub enum Edit {
     Remove {
         kind: Name,
         key: Key,
+    },
+    Replace {
+        template: Name,
+        body: SharedBody,
     },
 }

@@ -6,6 +6,7 @@
 
 mod content_laws;
 mod edit;
+mod feed_refusal;
 mod mark;
 mod mode;
 mod publishing_laws;
@@ -14,6 +15,7 @@ mod serving_laws;
 
 pub use content_laws::{commits_law, versions_law};
 pub use edit::Edit;
+pub use feed_refusal::FeedRefusal;
 pub use mark::Mark;
 pub use mode::Mode;
 pub use publishing_laws::{bundle_law, closed_law, targets_law};

@@ -7,12 +7,15 @@ ghost use Rattle.dup_model.specs.Expansions.{ExpansionsAreGood, GoodIsRight};
 ghost use Rattle.dup_model.specs.Found.{FoundIsFound};
 ghost use Rattle.dup_model.specs.Jobs.{FoundAreJobs};
 ghost use Rattle.dup_model.specs.ChangedItems.{ChangesExist, VersionsHaveKeys, ReadsAreItems, TouchedByChanges};
-ghost use Rattle.dup_model.specs.GoodSites.{GoodEmbedsEarlier, GoodJobsFit};
+ghost use Rattle.dup_model.specs.GoodSites.{GoodEmbedsEarlier, GoodHistoriesEmbedEarlier};
+ghost use Rattle.dup_model.specs.GoodSites.{GoodJobsFit, GoodVersions};
 
 /// What the check of a site establishes of its contents: the premises of the laws on rendering.
 pub fn good_sites_law()
     ensures earlier { GoodEmbedsEarlier }
     ensures jobs { GoodJobsFit }
+    ensures versions { GoodVersions }
+    ensures histories { GoodHistoriesEmbedEarlier }
 {}
 
 /// What each kind of statement shows.

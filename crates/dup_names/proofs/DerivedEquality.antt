@@ -5,15 +5,12 @@ use Rattle.std.specs.Prelude.{nat_eq}
 use Rattle.std.specs.Cmp.Lexicographic.{pointwise}
 use Rattle.std.proofs.lemmas.Slice.Eq.{bytes_eq-Decides, slice_eq-Decides}
 use Rattle.dup_names.specs.declared.object.Obj.{Obj}
-use Rattle.dup_names.specs.declared.value.Value.{Value}
-use Rattle.dup_names.specs.declared.value.Value.TheVariants.{Text, Exists, Keys}
 use Rattle.dup_names.specs.declared.value.Piece.{Piece}
 use Rattle.dup_names.specs.declared.value.Piece.TheVariants.{Plain, Hole}
 use Rattle.dup_names.specs.declared.value.Skeleton.{Skeleton}
 use Rattle.dup_names.specs.declared.value.Look.{Look}
 use Rattle.dup_names.specs.contracts.object.ObjPartialEq.TheImpl.{ghosts as objects}
 use Rattle.dup_names.specs.contracts.value.PiecePartialEq.TheImpl.{ghosts as pieces}
-use Rattle.dup_names.specs.contracts.value.ValuePartialEq.TheImpl.{ghosts as values}
 use Rattle.dup_names.specs.contracts.value.SkeletonPartialEq.TheImpl.{ghosts as skeletons}
 use Rattle.dup_names.specs.contracts.value.LookPartialEq.TheImpl.{ghosts as looks}
 
@@ -35,18 +32,6 @@ pieces-Decides xs ys = slice_eq-Decides piece-Decides xs ys _ refl
 
 texts-Decides : (xs ys : List (List ℕ)) → Decides (pointwise (pointwise nat_eq) xs ys) (xs ≡ ys)
 texts-Decides xs ys = slice_eq-Decides bytes_eq-Decides xs ys _ refl
-
-pub Value-Decides : (a b : Value) → Decides (values.eq a b) (a ≡ b)
-Value-Decides (Text x) (Text y) = search (rules, bytes_eq-Decides)
-Value-Decides (Text x) (Exists y) = search (rules, bytes_eq-Decides)
-Value-Decides (Text x) (Keys y) = search (rules, bytes_eq-Decides)
-Value-Decides (Exists x) (Text y) = search (rules, bytes_eq-Decides)
-Value-Decides (Exists x) (Exists y) = search (rules, bytes_eq-Decides)
-Value-Decides (Exists x) (Keys y) = search (rules, bytes_eq-Decides)
-Value-Decides (Keys x) (Text y) = search (rules, bytes_eq-Decides)
-Value-Decides (Keys x) (Exists y) = search (rules, bytes_eq-Decides)
-Value-Decides (Keys x) (Keys y) =
-    let d = texts-Decides x y in (λ h. ap Keys (d.0 h), λ e. d.1 (cc))
 
 pub Skeleton-Decides : (a b : Skeleton) → Decides (skeletons.eq a b) (a ≡ b)
 Skeleton-Decides a b =

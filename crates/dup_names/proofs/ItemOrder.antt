@@ -19,12 +19,14 @@ form (item.Field k q f) = 0
 form (item.Row k q) = 1
 form (item.List k) = 2
 form (item.Group k f q) = 3
+form (item.Template t) = 4
 
 abbrev kind_part : Item → ℕ
 kind_part (item.Field k q f) = k
 kind_part (item.Row k q) = k
 kind_part (item.List k) = k
 kind_part (item.Group k f q) = k
+kind_part (item.Template t) = t
 
 abbrev first_part : Item → ℕ
 first_part (item.Group k f q) = f
@@ -35,6 +37,7 @@ key_part (item.Field k q f) = q
 key_part (item.Row k q) = q
 key_part (item.List k) = []
 key_part (item.Group k f q) = q
+key_part (item.Template t) = []
 
 abbrev last_part : Item → ℕ
 last_part (item.Field k q f) = f
@@ -57,18 +60,27 @@ item_by_parts (item.Field k q f) (item.Field l r g) = refl
 item_by_parts (item.Field k q f) (item.Row l r) = refl
 item_by_parts (item.Field k q f) (item.List l) = refl
 item_by_parts (item.Field k q f) (item.Group l g r) = refl
+item_by_parts (item.Field k q f) (item.Template u) = refl
 item_by_parts (item.Row k q) (item.Field l r g) = refl
 item_by_parts (item.Row k q) (item.Row l r) = ap (ordering_then (nat_cmp k l)) (then_end (text_cmp q r))
 item_by_parts (item.Row k q) (item.List l) = refl
 item_by_parts (item.Row k q) (item.Group l g r) = refl
+item_by_parts (item.Row k q) (item.Template u) = refl
 item_by_parts (item.List k) (item.Field l r g) = refl
 item_by_parts (item.List k) (item.Row l r) = refl
 item_by_parts (item.List k) (item.List l) = then_end (nat_cmp k l)
 item_by_parts (item.List k) (item.Group l g r) = refl
+item_by_parts (item.List k) (item.Template u) = refl
 item_by_parts (item.Group k f q) (item.Field l r g) = refl
 item_by_parts (item.Group k f q) (item.Row l r) = refl
 item_by_parts (item.Group k f q) (item.List l) = refl
 item_by_parts (item.Group k f q) (item.Group l g r) = ap (λ o. ordering_then (nat_cmp k l) (ordering_then (nat_cmp f g) o)) (then_end (text_cmp q r))
+item_by_parts (item.Group k f q) (item.Template u) = refl
+item_by_parts (item.Template t) (item.Field l r g) = refl
+item_by_parts (item.Template t) (item.Row l r) = refl
+item_by_parts (item.Template t) (item.List l) = refl
+item_by_parts (item.Template t) (item.Group l g r) = refl
+item_by_parts (item.Template t) (item.Template u) = then_end (nat_cmp t u)
 
 pub item_total : IsTotalOrder item_cmp
 item_total = subst IsTotalOrder (λ i a b. item_by_parts a b i)
@@ -89,16 +101,19 @@ item_tied (item.Field k q f) (item.Field l r g) is =
 item_tied (item.Field k q f) (item.Row l r) is = cc
 item_tied (item.Field k q f) (item.List l) is = cc
 item_tied (item.Field k q f) (item.Group l g r) is = cc
+item_tied (item.Field k q f) (item.Template u) is = cc
 item_tied (item.Row k q) (item.Field l r g) is = cc
 item_tied (item.Row k q) (item.Row l r) is =
     let one : (nat_cmp k l ≡ Equal) × (text_cmp q r ≡ Equal) = then_equal _ _ is in
     λ i. item.Row (fin.nat_cmp-IsAntisymmetric k l one.0 i) (word_tied q r one.1 i)
 item_tied (item.Row k q) (item.List l) is = cc
 item_tied (item.Row k q) (item.Group l g r) is = cc
+item_tied (item.Row k q) (item.Template u) is = cc
 item_tied (item.List k) (item.Field l r g) is = cc
 item_tied (item.List k) (item.Row l r) is = cc
 item_tied (item.List k) (item.List l) is = ap item.List (fin.nat_cmp-IsAntisymmetric k l is)
 item_tied (item.List k) (item.Group l g r) is = cc
+item_tied (item.List k) (item.Template u) is = cc
 item_tied (item.Group k f q) (item.Field l r g) is = cc
 item_tied (item.Group k f q) (item.Row l r) is = cc
 item_tied (item.Group k f q) (item.List l) is = cc
@@ -106,6 +121,12 @@ item_tied (item.Group k f q) (item.Group l g r) is =
     let one : (nat_cmp k l ≡ Equal) × (ordering_then (nat_cmp f g) (text_cmp q r) ≡ Equal) = then_equal _ _ is in
     let two : (nat_cmp f g ≡ Equal) × (text_cmp q r ≡ Equal) = then_equal _ _ one.1 in
     λ i. item.Group (fin.nat_cmp-IsAntisymmetric k l one.0 i) (fin.nat_cmp-IsAntisymmetric f g two.0 i) (word_tied q r two.1 i)
+item_tied (item.Group k f q) (item.Template u) is = cc
+item_tied (item.Template t) (item.Field l r g) is = cc
+item_tied (item.Template t) (item.Row l r) is = cc
+item_tied (item.Template t) (item.List l) is = cc
+item_tied (item.Template t) (item.Group l g r) is = cc
+item_tied (item.Template t) (item.Template u) is = ap item.Template (fin.nat_cmp-IsAntisymmetric t u is)
 
 -- the derived order of items
 pub item_cmp_at : (a b : Item) → items.cmp a b ≡ item_cmp a b

@@ -29,7 +29,7 @@ fn is_key(bytes: &[u8]) -> bool
 }
 
 /// 1 to 48 bytes of a-z, 0-9, _ and -. Keys have the order of their bytes.
-#[derive(Clone, Copy, Debug, PartialEq, Eq, PartialOrd, Ord)]
+#[derive(Clone, Copy, Debug, PartialEq, Eq, PartialOrd, Ord, Hash)]
 pub struct Key {
     text: Short<MAX_KEY_BYTES>,
 }

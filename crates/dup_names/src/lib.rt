@@ -27,7 +27,7 @@ pub use no_memory::NoMemory;
 pub use object::{Item, Obj};
 pub use path::Path;
 pub use shared::{Bytes, Text};
-pub use value::{Look, Piece, Skeleton, Value};
+pub use value::{Look, Piece, Skeleton};
 
 #[cfg(test)]
 mod tests;

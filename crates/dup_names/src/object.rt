@@ -3,7 +3,7 @@ use crate::key::Key;
 
 /// A template without kind, or a template of a kind with the key of a row. Objects are ordered by
 /// template, no key before a key, then by key.
-#[derive(Clone, Copy, Debug, PartialEq, Eq, PartialOrd, Ord)]
+#[derive(Clone, Copy, Debug, PartialEq, Eq, PartialOrd, Ord, Hash)]
 pub struct Obj {
     /// The number of the template, counted from 0.
     pub template: u16,
@@ -11,8 +11,8 @@ pub struct Obj {
     pub key: Option<Key>,
 }
 
-/// What may be read of a content. Kinds and their fields are counted from 0. Items are ordered by
-/// their form, then by their numbers and keys from left to right.
+/// What may be read of a content. Kinds, their fields and templates are counted from 0. Items are
+/// ordered by their form, then by their numbers and keys from left to right.
 #[derive(Clone, Copy, Debug, PartialEq, Eq, PartialOrd, Ord)]
 pub enum Item {
     /// The text of a row's field.
@@ -23,4 +23,6 @@ pub enum Item {
     List { kind: u16 },
     /// The keys of a kind's rows whose field equals the key.
     Group { kind: u16, field: u16, key: Key },
+    /// The statements of a template.
+    Template { template: u16 },
 }

@@ -2,11 +2,15 @@
 ghost use Rattle.std.specs.Prelude.{◌≡◌, ◌≤◌, Some, length, refl, nat_eq};
 ghost use Rattle.std.specs.Ordering.{nat_cmp};
 ghost use Rattle.std.specs.Cmp.{partial_equiv_from_equiv};
+ghost use Rattle.std.specs.Hash as fed;
+ghost use Rattle.std.specs.Hash.{items_Alike, same_Alike};
+ghost use Rattle.std.proofs.Common.{rules};
 ghost use Rattle.std.specs.Cmp.Lexicographic.{pointwise, slice_cmp, nat_list_eq_equiv};
 ghost use Rattle.std.specs.Cmp.Lexicographic.{nat_list_cmp_total, texts_po, texts_ties};
 
 use std::cmp::Ordering;
 use std::fmt::{self, Debug, Display, Formatter, Write};
+use std::hash::{Hash, Hasher};
 use std::marker::Model;
 use std::str;
 
@@ -81,6 +85,16 @@ impl<const N: usize> PartialEq for Short<N> {
 
 impl<const N: usize> Eq for Short<N> {
     ghost laws = { nat_list_eq_equiv };
+}
+
+impl<const N: usize> Hash for Short<N> {
+    ghost hash_input = { fed.slice fed.u8 };
+
+    ghost respects_eq = { (items_Alike (same_Alike {E = nat_eq} fed.u8 (λ x y. Prim.search rules))).fed };
+
+    fn hash<H: Hasher>(&self, state: &mut H) {
+        self.as_slice().hash(state);
+    }
 }
 
 impl<const N: usize> PartialOrd for Short<N> {

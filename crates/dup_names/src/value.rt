@@ -1,20 +1,8 @@
-// What is read, and what is shown.
-use crate::key::KeyList;
+// What is shown.
 use crate::object::Obj;
 use crate::path::Path;
-use crate::shared::{Bytes, Text};
+use crate::shared::Bytes;
 use dup_lists::Listed;
-
-/// The value of an item.
-#[derive(Debug, Drop, PartialEq, Eq)]
-pub enum Value {
-    /// Of a field.
-    Text(Text),
-    /// Of a row.
-    Exists(bool),
-    /// Of a list or a group.
-    Keys(KeyList),
-}
 
 /// A part of a skeleton.
 #[derive(Debug, Drop, PartialEq, Eq)]

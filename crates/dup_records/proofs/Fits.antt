@@ -8,7 +8,7 @@ use Rattle.std.specs.declared.cmp.Ordering.TheVariants.{Less, Equal, Greater}
 use Rattle.dup_names.specs.Order.{text_cmp}
 use Rattle.dup_names.specs.Words.{Word, same, place}
 use Rattle.dup_model.specs.Content.{Entry, Table}
-use Rattle.dup_model.specs.Frame.{Frame}
+use Rattle.dup_template.specs.Frame.{Frame}
 use Rattle.dup_model.specs.Names.{fields_at}
 use Rattle.dup_model.specs.Commits.{blank, put_row, put_row_at, with_fields}
 use Rattle.dup_records.specs.Fits.{HaveTexts, TablesFit}

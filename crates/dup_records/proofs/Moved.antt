@@ -18,21 +18,24 @@ use Rattle.dup_names.specs.Words.{Word, same}
 use Rattle.dup_names.specs.declared.object.Item.{Item}
 use Rattle.dup_names.specs.declared.object.Item.TheVariants as item
 use Rattle.dup_model.specs.declared.edit.Edit.{Edit}
-use Rattle.dup_model.specs.declared.edit.Edit.TheVariants.{Put, Remove}
-use Rattle.dup_model.specs.Changes.{kind_in, key_in}
+use Rattle.dup_model.specs.declared.edit.Edit.TheVariants.{Put, Remove, Replace}
+use Rattle.dup_model.specs.Changes.{is_of_kind, is_of_key}
+use Rattle.dup_template.specs.SameBody.{same_body}
+use Rattle.dup_template.specs.SameStatement.{body-Decides}
+use Rattle.dup_template.specs.declared.statement.Statement.{Statement}
 use Rattle.dup_model.specs.Commits.{Commit, after, edited}
-use Rattle.dup_model.specs.Content.{Content, Entry, Table, table, row, text, texts_at, keys, group}
-use Rattle.dup_model.specs.Frame.{Frame}
-use Rattle.dup_model.specs.Names.{kind_at, fields_at}
+use Rattle.dup_model.specs.Content.{Content, Entry, Table, body_at, table, row, text, texts_at, keys, group}
+use Rattle.dup_template.specs.Frame.{Frame}
+use Rattle.dup_model.specs.Names.{kind_at, fields_at, template_at}
 use Rattle.dup_model.specs.Tables.{IsBelow, IsRising, TablesRise}
 use Rattle.dup_model.specs.Touched.{AreChanged, differs, is_item, items_rise}
 use Rattle.dup_model.proofs.ChangedItems.{contained}
-use Rattle.dup_model.proofs.Changes.{other_kinds_stay, other_rows_stay}
+use Rattle.dup_model.proofs.Changes.{other_bodies_stay, other_kinds_stay, other_rows_stay}
 use Rattle.dup_names.proofs.ItemOrder.{item_tied, item_total}
 use Rattle.dup_model.proofs.Reached.{or_right}
 use Rattle.dup_model.proofs.Tables.{equal_is, rising_at, rising_filter}
 use Rattle.dup_records.specs.Fits.{HaveTexts, RowsFit}
-use Rattle.dup_records.specs.Moved.{AreNoted, has_item, one, group_named, moved_field, moved_fields, is_row, moved_row, moved_in, moved_by_edit, moved_by_commit, moved_by}
+use Rattle.dup_records.specs.Moved.{AreNoted, has_item, one, group_named, moved_field, moved_fields, is_row, moved_row, moved_in, moved_at, moved_body, moved_by_edit, moved_by_commit, moved_by}
 
 -- words and items
 same_self : (w : Word) → same w w ≡ true
@@ -55,24 +58,32 @@ or_false true b h = absurd (true≢false h)
 frame_stays : (c : Content) (e : Edit) → (edited c e).frame ≡ c.frame
 frame_stays c (Put name key fields) = refl
 frame_stays c (Remove name key) = refl
+frame_stays c (Replace name body) = refl
 
 module _ (a b : Content) (it : Item) (k : ℕ) (q : Word) where
   -- the row is the same, or nothing moved by it
   Still : Content → Content → Type 0
   Still c d = (row d k q ≡ row c k q) ⊎ (moved_in a b k q it ≡ false)
 
+  still_row : (c : Content) (e : Edit) (name key : Word) → c.frame ≡ a.frame →
+      ((n : ℕ) → is_of_kind c.frame e n ≡ (kind_at c.frame name == n)) → ((w : Word) → is_of_key e w ≡ same key w) →
+      moved_at a b name key it ≡ false → Still c (edited c e)
+  unfolding Still
+  still_row c e name key of kinds keys none = by_kind (cases_Bool (kind_at c.frame name == k))
+    where
+      by_key : kind_at a.frame name ≡ k → (same key q ≡ true) ⊎ (same key q ≡ false) → Still c (edited c e)
+      by_key at (inl is) = inr (subst (λ w. moved_in a b k w it ≡ false) (same_is key q is) (subst (λ n. moved_in a b n key it ≡ false) at none))
+      by_key at (inr other) = inl (other_rows_stay c e k q (keys q ∙ other))
+
+      by_kind : ((kind_at c.frame name == k) ≡ true) ⊎ ((kind_at c.frame name == k) ≡ false) → Still c (edited c e)
+      by_kind (inl is) = by_key (ap (λ f. kind_at f name) (sym of) ∙ (Decides-eqb (kind_at c.frame name) k).0 is) (cases_Bool (same key q))
+      by_kind (inr isnt) = inl (other_kinds_stay c e k q (kinds k ∙ isnt))
+
   still_at : (c : Content) (e : Edit) → c.frame ≡ a.frame → moved_by_edit a b it e ≡ false → Still c (edited c e)
   unfolding Still
-  still_at c e of none = by_kind (cases_Bool (k == kind_at a.frame (kind_in e)))
-    where
-      by_key : k ≡ kind_at a.frame (kind_in e) → (same (key_in e) q ≡ true) ⊎ (same (key_in e) q ≡ false) → Still c (edited c e)
-      by_key at (inl is) = inr (subst (λ w. moved_in a b k w it ≡ false) (same_is (key_in e) q is) (subst (λ n. moved_in a b n (key_in e) it ≡ false) (sym at) none))
-      by_key at (inr other) = inl (other_rows_stay c e k q other)
-
-      by_kind : ((k == kind_at a.frame (kind_in e)) ≡ true) ⊎ ((k == kind_at a.frame (kind_in e)) ≡ false) → Still c (edited c e)
-      by_kind (inl is) = by_key ((Decides-eqb k (kind_at a.frame (kind_in e))).0 is) (cases_Bool (same (key_in e) q))
-      by_kind (inr isnt) = inl (other_kinds_stay c e k q
-          (λ is. true≢false (sym ((Decides-eqb k (kind_at a.frame (kind_in e))).1 (is ∙ ap (λ f. kind_at f (kind_in e)) of)) ∙ isnt)))
+  still_at c (Put name key fields) of none = still_row c (Put name key fields) name key of (λ n. refl) (λ w. refl) none
+  still_at c (Remove name key) of none = still_row c (Remove name key) name key of (λ n. refl) (λ w. refl) none
+  still_at c (Replace name body) of none = inl refl
 
   still_then : (c d e : Content) → Still c d → Still d e → Still c e
   unfolding Still
@@ -103,6 +114,41 @@ frame_after c (e ∷ es) = frame_after (edited c e) es ∙ frame_stays c e
 pub frame_fold : (c : Content) (commits : List Commit) → (fold after c commits).frame ≡ c.frame
 frame_fold c [] = refl
 frame_fold c (commit ∷ commits) = frame_fold (after c commit) commits ∙ frame_after c commit
+
+-- the bodies that no change names stay
+module _ (a b : Content) (it : Item) (n : ℕ) where
+  Rests : Content → Content → Type 0
+  Rests c d = (body_at d n ≡ body_at c n) ⊎ (moved_body a b n it ≡ false)
+
+  rests_at : (c : Content) (e : Edit) → c.frame ≡ a.frame → moved_by_edit a b it e ≡ false → Rests c (edited c e)
+  unfolding Rests
+  rests_at c (Put name key fields) of none = inl refl
+  rests_at c (Remove name key) of none = inl refl
+  rests_at c (Replace name body) of none = elim (cases_Bool (n == template_at c.frame name)) [
+    | inl is ↦ inr (subst (λ m. moved_body a b m it ≡ false) (sym ((Decides-eqb n (template_at c.frame name)).0 is ∙ ap (λ f. template_at f name) of)) none)
+    | inr isnt ↦ inl (other_bodies_stay c name body n (λ is. true≢false (sym ((Decides-eqb n (template_at c.frame name)).1 is) ∙ isnt)))
+  ]
+
+  rests_then : (c d e : Content) → Rests c d → Rests d e → Rests c e
+  unfolding Rests
+  rests_then c d e (inl one) (inl two) = inl (two ∙ one)
+  rests_then c d e (inl one) (inr none) = inr none
+  rests_then c d e (inr none) _ = inr none
+
+  rests_after : (c : Content) (es : Commit) → c.frame ≡ a.frame → moved_by_commit a b es it ≡ false → Rests c (after c es)
+  unfolding Rests
+  rests_after c [] of none = inl refl
+  rests_after c (e ∷ es) of none =
+      let both = or_false (moved_by_edit a b it e) (moved_by_commit a b es it) none in
+      rests_then c (edited c e) (after (edited c e) es) (rests_at c e of both.0) (rests_after (edited c e) es (frame_stays c e ∙ of) both.1)
+
+  rests_fold : (c : Content) (commits : List Commit) → c.frame ≡ a.frame → moved_by a b commits it ≡ false → Rests c (fold after c commits)
+  unfolding Rests
+  rests_fold c [] of none = inl refl
+  rests_fold c (commit ∷ commits) of none =
+      let both = or_false (moved_by_commit a b commit it) (moved_by a b commits it) none in
+      rests_then c (after c commit) (fold after (after c commit) commits) (rests_after c commit of both.0)
+      (rests_fold (after c commit) commits (frame_after c commit ∙ of) both.1)
 
 -- the keys of rows, and of the rows of a group, by membership
 abbrev has_word : List Word → Word → Bool
@@ -287,10 +333,17 @@ module _ (a b : Content) (rises_a : TablesRise a) (rises_b : TablesRise b) where
       | inr here ↦ fields_sound k q (length (fields_at a.frame k)) here
     ]
 
+    edit_sound : (e : Edit) → moved_by_edit a b it e ≡ true → differs a b it ≡ true
+    edit_sound (Put name key fields) h = in_sound (kind_at a.frame name) key h
+    edit_sound (Remove name key) h = in_sound (kind_at a.frame name) key h
+    edit_sound (Replace name body) h =
+        let both = and_parts (not (same_body (body_at a (template_at a.frame name)) (body_at b (template_at a.frame name)))) (one (item.Template (template_at a.frame name)) it) h in
+        subst (λ i. differs a b i ≡ true) (sym (one_is (item.Template (template_at a.frame name)) it both.1)) both.0
+
     commit_sound : (es : Commit) → moved_by_commit a b es it ≡ true → differs a b it ≡ true
     commit_sound [] h = absurd (true≢false (sym h))
     commit_sound (e ∷ es) h = elim (or_cases (moved_by_edit a b it e) (moved_by_commit a b es it) h) [
-      | inl here ↦ in_sound (kind_at a.frame (kind_in e)) (key_in e) here
+      | inl here ↦ edit_sound e here
       | inr later ↦ commit_sound es later
     ]
 
@@ -375,6 +428,10 @@ module _ (a b : Content) (commits : List Commit) (is : b ≡ fold after a commit
             not_it (text a k q f) both.0 ∙ sym (not_it (text b k q f) both.1)
       ]
 
+  body_rests : (n : ℕ) → (body_at b n ≡ body_at a n) ⊎ (moved_body a b n it ≡ false)
+  unfolding Rests
+  body_rests n = subst (λ c. (body_at c n ≡ body_at a n) ⊎ (moved_body a b n it ≡ false)) (sym is) (rests_fold a b it n a commits refl none)
+
   same_then : (i : Item) → it ≡ i → is_item i ≡ true → differs a b i ≡ false
   same_then (item.Field k q f) at fine = elim (field_stays k q f) [
     | inl texts ↦ ap not ((bytes_eq-Decides (text a k q f) (text b k q f)).1 texts)
@@ -384,6 +441,13 @@ module _ (a b : Content) (commits : List Commit) (is : b ≡ fold after a commit
       (row_stays k q (or_left (one (item.Row k q) it) (one (item.List k) it) (ap (one (item.Row k q)) at ∙ one_self (item.Row k q)))))
   same_then (item.List k) at fine = ap not (lists_same (keys a k) (keys b k) (keys_stay k (ap (one (item.List k)) at ∙ one_self (item.List k))))
   same_then (item.Group k f t) at fine = ap not (lists_same (group a k f t) (group b k f t) (group_stays k f t fine (ap (one (item.Group k f t)) at ∙ one_self (item.Group k f t))))
+  same_then (item.Template n) at fine = elim (body_rests n) [
+    | inl same_bodies ↦ ap not ((body-Decides (body_at a n) (body_at b n)).1 (sym same_bodies))
+    | inr none ↦ elim (cases_Bool (not (same_body (body_at a n) (body_at b n)))) [
+      | inl other ↦ absurd (true≢false (sym (and_from (not (same_body (body_at a n) (body_at b n))) (one (item.Template n) it) other (ap (one (item.Template n)) at ∙ one_self (item.Template n))) ∙ none))
+      | inr alike ↦ alike
+    ]
+  ]
 
 -- a list by its members
 contains_has : (items : List Item) (it : Item) → Contains items it → has_item items it ≡ true

@@ -2,3 +2,4 @@ pub mod Places
 pub mod Refusals
 pub mod Fits
 pub mod Moved
+pub mod JournalSizes

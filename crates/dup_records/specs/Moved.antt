@@ -1,4 +1,4 @@
--- The items that differ between two contents by the rows that changes name.
+-- The items that differ between two contents by the rows and the templates that changes name.
 use Rattle.std.specs.Prelude.{◌≡◌, ℕ, zero, suc, Bool, false, not, ◌&&◌, ◌||◌, List, is_some, length, if◌then◌else◌}
 use Rattle.std.specs.List.{list_any}
 use Rattle.std.specs.List.Sorted.{IsStrictlySortedBy}
@@ -9,10 +9,11 @@ use Rattle.dup_names.specs.Words.{Word, same}
 use Rattle.dup_names.specs.declared.object.Item.{Item}
 use Rattle.dup_names.specs.declared.object.Item.TheVariants as item
 use Rattle.dup_model.specs.declared.edit.Edit.{Edit}
-use Rattle.dup_model.specs.Changes.{kind_in, key_in}
+use Rattle.dup_model.specs.declared.edit.Edit.TheVariants.{Put, Remove, Replace}
+use Rattle.dup_template.specs.SameBody.{same_body}
 use Rattle.dup_model.specs.Commits.{Commit}
-use Rattle.dup_model.specs.Content.{Content, row, text}
-use Rattle.dup_model.specs.Names.{kind_at, fields_at}
+use Rattle.dup_model.specs.Content.{Content, body_at, row, text}
+use Rattle.dup_model.specs.Names.{kind_at, fields_at, template_at}
 
 abbrev pub one : Item → Item → Bool
 one i it = eq_by_cmp item_cmp it i
@@ -65,8 +66,15 @@ moved_in a b kind key it =
 abbrev pub moved_at : Content → Content → Word → Word → Item → Bool
 moved_at a b name key it = moved_in a b (kind_at a.frame name) key it
 
+-- a template whose body differs
+abbrev pub moved_body : Content → Content → ℕ → Item → Bool
+moved_body a b template it =
+    not (same_body (body_at a template) (body_at b template)) && one (item.Template template) it
+
 abbrev pub moved_by_edit : Content → Content → Item → Edit → Bool
-moved_by_edit a b it e = moved_at a b (kind_in e) (key_in e) it
+moved_by_edit a b it (Put name key fields) = moved_at a b name key it
+moved_by_edit a b it (Remove name key) = moved_at a b name key it
+moved_by_edit a b it (Replace name body) = moved_body a b (template_at a.frame name) it
 
 abbrev pub moved_by_commit : Content → Content → Commit → Item → Bool
 moved_by_commit a b commit it = list_any (moved_by_edit a b it) commit

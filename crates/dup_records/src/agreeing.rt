@@ -2,12 +2,13 @@
 ghost use Rattle.std.specs.Prelude.{◌≡◌, ◌↔◌, IsTrue, Some, map};
 ghost use Rattle.std.specs.List.{filter};
 ghost use Rattle.dup_names.specs.Words.{same};
-ghost use Rattle.dup_names.specs.declared.value.Value.TheVariants as seen_as;
+ghost use Rattle.dup_template.specs.declared.value.Value.TheVariants as seen_as;
 ghost use Rattle.dup_model.specs.Content.{texts_at};
 
 use crate::keys::{group_has_keys, have_keys};
 use crate::rows::Entry;
-use dup_names::{Key, Value};
+use dup_names::Key;
+use dup_template::{Statement, Value};
 
 pub(crate) fn is_text(bytes: &[u8], seen: &Value) -> bool
     ensures { IsTrue result ↔ (seen_as.Text bytes.now ≡ seen.now) }
@@ -23,6 +24,15 @@ pub(crate) fn is_answer(answer: bool, seen: &Value) -> bool
 {
     match seen {
         Value::Exists(exists) => *exists == answer,
+        _ => false,
+    }
+}
+
+pub(crate) fn is_body(body: &[Statement], seen: &Value) -> bool
+    ensures { IsTrue result ↔ (seen_as.Body body.now ≡ seen.now) }
+{
+    match seen {
+        Value::Body(shared) => shared.items() == body,
         _ => false,
     }
 }

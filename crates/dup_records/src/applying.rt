@@ -1,6 +1,6 @@
 // What a commit does to a content, or why it is refused.
 ghost use Rattle.std.specs.Prelude.{◌≡◌, ◌≢◌, ◌≤◌, ◌<◌, ◌^◌, ℕ, Err, IfOk, IfErr, OnOk, None};
-ghost use Rattle.dup_model.specs.declared.edit.Edit.TheVariants.{Put, Remove};
+ghost use Rattle.dup_model.specs.declared.edit.Edit.TheVariants.{Put, Remove, Replace};
 ghost use Rattle.dup_model.specs.Commits.{after, edited, knows, refusal};
 ghost use Rattle.dup_records.specs.Refusals.{Names, due};
 
@@ -9,6 +9,7 @@ use crate::content::Content;
 use crate::refusal::CommitRefusal;
 use dup_model::Edit;
 use dup_names::{Key, Name, Text, place_of};
+use dup_template::{SharedBody, SiteRefusal};
 use std::alloc::Global;
 
 fn are_known(names: &[Name], fields: &[(Name, Text)]) -> bool
@@ -68,6 +69,30 @@ fn remove(
     Ok(content.without(alloc, kind, key)?)
 }
 
+fn replace(
+    alloc: Global,
+    content: &Content,
+    name: &Name,
+    body: &SharedBody,
+    number: u16,
+    rows: u32,
+) -> Result<Content, CommitRefusal>
+    ensures after { IfOk result (λ made. made ≡ edited content.now (Replace name.now body.now)) }
+    ensures fits { OnOk result (due content.now rows number (Replace name.now body.now) ≡ None) }
+    ensures refused { IfErr result
+        (λ e. Names e (due content.now rows number (Replace name.now body.now))) }
+{
+    let template = content.template_number(name);
+    if template >= content.template_count() {
+        return Err(CommitRefusal::UnknownTemplate(number));
+    }
+    match content.with_body(alloc, template, body) {
+        Ok(made) => Ok(made),
+        Err(SiteRefusal::NoMemory) => Err(CommitRefusal::NoMemory),
+        Err(why) => Err(CommitRefusal::BadBody(number, why)),
+    }
+}
+
 fn edit(
     alloc: Global,
     content: &Content,
@@ -84,14 +109,16 @@ fn edit(
             put(alloc, content, kind, key, fields.items(), number, rows)
         }
         Edit::Remove { kind, key } => remove(alloc, content, kind, key, number, rows),
+        Edit::Replace { template, body } => replace(alloc, content, template, body, number, rows),
     }
 }
 
 /// Makes the changes of a commit in order, whole or not at all; the content stays as it is. A put sets
 /// the named fields of its row and leaves the others; it makes the row where it is absent, with empty
-/// texts. A kind takes no new row past so many. The first change that fails decides; in it the kind is
-/// looked at first, then the fields, then the row. It never answers `JournalFull`. A change costs a
-/// walk over the rows of its kind.
+/// texts. A kind takes no new row past so many. A new body stands in place of its template's. The
+/// first change that fails decides; in it the kind is looked at first, then the fields, then the row,
+/// and the template first, then its body. It never answers `JournalFull`. A change of a row costs a
+/// walk over the rows of its kind, one of a body the body and the site's frame.
 pub fn apply(
     alloc: Global,
     content: &Content,

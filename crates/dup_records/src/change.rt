@@ -1,15 +1,19 @@
 // The changes of a commit.
-ghost use Rattle.std.specs.Prelude.{◌≡◌, ◌↔◌, IsTrue, IsSome, IfSome, IfOk, length};
-ghost use Rattle.dup_model.specs.declared.edit.Edit.TheVariants.{Put, Remove};
+ghost use Rattle.std.specs.Prelude.{◌≡◌, ◌↔◌, ◌≤◌, IsTrue, IsSome, IfSome, IfOk, length};
+ghost use Rattle.dup_names.specs.declared.limits.TheConstants.{MAX_TEXT_BYTES};
+ghost use Rattle.dup_template.specs.BodyLines.{body_text, longest_of};
+ghost use Rattle.dup_model.specs.declared.edit.Edit.TheVariants.{Put, Remove, Replace};
 ghost use Rattle.dup_model.specs.Commits.{rise, IsInOrder};
 
 use dup_lists::Listed;
 use dup_model::Edit;
-use dup_names::{Key, Name, NoMemory, Text};
+use dup_names::{Key, MAX_TEXT_BYTES, Name, NoMemory, Text};
+use dup_template::SharedBody;
 use std::alloc::Global;
 use std::marker::Model;
 
-/// A change of one row: a put of some fields, whose names rise, or a remove.
+/// A change of one row, a put of some fields, whose names rise, or a remove; or a new body of a template,
+/// each of whose canonical lines has at most 4,096 bytes.
 #[derive(Debug, Drop)]
 pub struct Change {
     edit: Edit,
@@ -18,8 +22,12 @@ pub struct Change {
 impl Model for Change {
     ghost use Rattle.dup_model.specs.declared.edit.Edit.{Edit};
     ghost use Rattle.dup_model.specs.Commits.{IsInOrder};
+    ghost use Rattle.std.specs.Coded.{codes};
+    ghost use Rattle.dup_template.specs.contracts.statement.Statement as statement;
 
     ghost Value = { Edit };
+
+    ghost coded = { Prim.hlevel (codes, statement.the_row.coded) };
 
     ghost view = { λ c. c.edit };
 
@@ -74,6 +82,20 @@ impl Change {
         }
     }
 
+    /// Replaces the body of a template, or `None` where one of the body's canonical lines has more than
+    /// 4,096 bytes. It walks the body, and takes no memory.
+    pub fn body(template: Name, body: SharedBody) -> Option<Change>
+        ensures some { IsSome result ↔ (longest_of (body_text body) ≤ MAX_TEXT_BYTES) }
+        ensures value { IfSome result (λ change. change ≡ Replace template body) }
+    {
+        if body.longest() > MAX_TEXT_BYTES as u64 {
+            return None;
+        }
+        Some(Change {
+            edit: Edit::Replace { template, body },
+        })
+    }
+
     /// What it says.
     pub fn edit(&self) -> &Edit
         ensures value { result.now ≡ self.now }
@@ -97,6 +119,13 @@ impl Change {
                 Ok(Change { edit })
             }
             Edit::Remove { kind, key } => Ok(Change::remove(*kind, *key)),
+            Edit::Replace { template, body } => {
+                let edit = Edit::Replace {
+                    template: *template,
+                    body: body.share()?,
+                };
+                Ok(Change { edit })
+            }
         }
     }
 }

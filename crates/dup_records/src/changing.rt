@@ -3,9 +3,10 @@ ghost use Rattle.std.specs.Prelude.{◌≡◌, OnOk, IfOk, length, map};
 ghost use Rattle.std.specs.List.{fold};
 ghost use Rattle.dup_names.specs.Grammar.{is_key};
 ghost use Rattle.dup_model.specs.Commits.{after};
-ghost use Rattle.dup_model.specs.Names.{fields_at};
+ghost use Rattle.dup_model.specs.Names.{fields_at, template_at};
 ghost use Rattle.dup_model.specs.Touched.{AreChanged};
-ghost use Rattle.dup_records.specs.Moved.{AreNoted, Notes, one, group_named, moved_field, moved_fields, moved_row, moved_at, moved_by_commit, moved_by};
+ghost use Rattle.dup_records.specs.Moved.{AreNoted, Notes, one, group_named, moved_field, moved_fields};
+ghost use Rattle.dup_records.specs.Moved.{moved_at, moved_body, moved_by, moved_by_commit, moved_row};
 
 use crate::commit::Commit;
 use crate::content::Content;
@@ -115,6 +116,18 @@ fn note_edit(
     note_fields(noted, old, new, kind, key)
 }
 
+// Notes a template whose body differs.
+fn note_body(noted: &mut Items, old: &Content, new: &Content, name: &Name) -> Result<(), NoMemory>
+    ensures { OnOk result (Notes noted.old.keys noted.new.keys
+        (moved_body old.now new.now (template_at old.now.frame name.now))) }
+{
+    let template = old.template_number(name);
+    if old.body_of(template) == new.body_of(template) {
+        return Ok(());
+    }
+    note(noted, Item::Template { template })
+}
+
 fn note_commit(
     noted: &mut Items,
     old: &Content,
@@ -127,6 +140,7 @@ fn note_commit(
         match change.edit() {
             Edit::Put { kind, key, .. } => note_edit(noted, old, new, kind, key)?,
             Edit::Remove { kind, key } => note_edit(noted, old, new, kind, key)?,
+            Edit::Replace { template, .. } => note_body(noted, old, new, template)?,
         }
     }
     Ok(())
@@ -157,8 +171,9 @@ fn listed(alloc: Global, items: Items) -> Result<Vec<Item>, NoMemory>
 }
 
 /// The items whose values differ from a content to the one that these commits make of it, in item
-/// order. It looks at the rows that the changes name, and at no other: each costs a search in the
-/// rows of its kind before and after, and a place for each item that differs.
+/// order. It looks at the rows and the bodies that the changes name, and at no other: each costs a
+/// search in the rows of its kind before and after, or a walk over the two bodies, and a place for each
+/// item that differs.
 pub fn changed(
     alloc: Global,
     old: &Content,

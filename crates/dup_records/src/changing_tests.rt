@@ -77,6 +77,7 @@ fn told(alloc: Global, item: &Item) -> Result<String, Fail> {
         Item::Row { key, .. } => format!(in alloc; "row {key}; ")?,
         Item::List { .. } => format!(in alloc; "list; ")?,
         Item::Group { field, key, .. } => format!(in alloc; "group {field} {key}; ")?,
+        Item::Template { template } => format!(in alloc; "template {template}; ")?,
     };
     Ok(text)
 }

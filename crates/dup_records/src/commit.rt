@@ -18,8 +18,12 @@ impl Model for Commit {
     ghost use Rattle.std.specs.Prelude.{List};
     ghost use Rattle.dup_model.specs.declared.edit.Edit.{Edit};
     ghost use Rattle.dup_model.specs.Commits.{HasCommitLength};
+    ghost use Rattle.std.specs.Coded.{codes};
+    ghost use Rattle.dup_template.specs.contracts.statement.Statement as statement;
 
     ghost Value = { List Edit };
+
+    ghost coded = { Prim.hlevel (codes, statement.the_row.coded) };
 
     ghost view = { λ c. c.changes };
 

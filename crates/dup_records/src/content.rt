@@ -1,5 +1,9 @@
 // Contents: a site and the rows of its kinds.
 ghost use Rattle.std.specs.Prelude.{◌≡◌, ◌<◌, ◌↔◌, [], IsTrue, IfOk, length, map, not, is_some, replicate};
+ghost use Rattle.std.specs.Prelude.{slice_set};
+ghost use Rattle.std.specs.Result.{result_err};
+ghost use Rattle.dup_template.specs.Frame.{bodies_of, frame_of};
+ghost use Rattle.dup_template.specs.Good.{RefusedFor, new_body_fault};
 ghost use Rattle.std.specs.List.{filter, slice_get};
 ghost use Rattle.std.specs.Option.{option_map, unwrap_or};
 ghost use Rattle.dup_names.specs.Words.{same};
@@ -10,21 +14,22 @@ ghost use Rattle.dup_model.specs.Commits.{blank, put_row, with_fields, with_tabl
 ghost use Rattle.dup_model.specs.Tables.{IsRising, TablesRise};
 ghost use Rattle.dup_records.specs.Fits.{HaveTexts, RowsFit};
 
-use crate::agreeing::{are_group, are_keys, is_answer, is_text};
+use crate::agreeing::{are_group, are_keys, is_answer, is_body, is_text};
 use crate::keys::{keys_of, keys_where};
 use crate::rows::{
     Entry, find_row, find_text, rows_with, rows_without, set_fields, text_or_empty, texts_or_blank,
 };
 use dup_lists::Listed;
-use dup_names::{Item, Key, KeyList, Name, NoMemory, Obj, Text, Value};
-use dup_template::{Site, Statement};
+use dup_names::{Item, Key, KeyList, Name, NoMemory, Obj, Text};
+use dup_template::{Body, SharedBody, Site, SiteRefusal, Statement, Value};
 use std::alloc::Global;
 use std::marker::Model;
 use std::sync::Arc;
 
 type Table = Listed<Entry>;
 
-/// A site, and for each kind its rows, which are shared with the contents that this one was made from.
+/// A site with the present bodies of its templates, and for each kind its rows, which are shared with the
+/// contents that this one was made from.
 /// The rows of a kind stand in the order of their keys, so a row is found by a binary search, and each
 /// has a text for each field of its kind.
 #[derive(Drop)]
@@ -39,7 +44,7 @@ impl Model for Content {
     ghost use Rattle.std.specs.Coded.{codes};
     ghost use Rattle.dup_template.specs.contracts.statement.Statement as statement;
     ghost use Rattle.dup_model.specs.Content.{Content as Contents};
-    ghost use Rattle.dup_model.specs.Frame.{frame_of, bodies_of};
+    ghost use Rattle.dup_template.specs.Frame.{frame_of, bodies_of};
     ghost use Rattle.dup_model.specs.Tables.{IsRising};
     ghost use Rattle.dup_records.specs.Fits.{TablesFit};
 
@@ -110,7 +115,7 @@ impl Content {
         Ok(Content { site, tables })
     }
 
-    /// The site.
+    /// The site, with the present bodies.
     pub fn site(&self) -> &Arc<Site, Global>
         ensures { IsOf result.now.value self.now }
     {
@@ -139,6 +144,13 @@ impl Content {
         ensures { result ≡ template_at self.now.frame name.now }
     {
         self.site().template_number(name)
+    }
+
+    /// The number of templates.
+    pub(crate) fn template_count(&self) -> u16
+        ensures { result ≡ length self.now.frame.templates }
+    {
+        self.site.templates().len() as u16
     }
 
     /// The number of kinds.
@@ -246,6 +258,38 @@ impl Content {
         Ok(Content { site, tables })
     }
 
+    /// The same content with this body in place of a template's, or the first rule that the body breaks
+    /// there.
+    #[tactic(auto, using(dup_template::proofs::WithBody::frame_with_body, dup_template::proofs::WithBody::bodies_with_body))]
+    pub(crate) fn with_body(
+        &self,
+        alloc: Global,
+        template: u16,
+        body: &SharedBody,
+    ) -> Result<Content, SiteRefusal>
+        requires there { template < length self.now.frame.templates }
+        ensures value { IfOk result (λ made.
+            made ≡ record self.now { bodies = slice_set self.now.bodies template body.now }) }
+        ensures fault { RefusedFor (result_err result)
+            (new_body_fault self.now.frame template body.now) }
+    {
+        let site = self.site.with_body(alloc, template, body)?;
+        match self.with_site(alloc, site) {
+            Ok(made) => Ok(made),
+            Err(_) => Err(SiteRefusal::NoMemory),
+        }
+    }
+
+    // The same rows of a site of the same frame.
+    fn with_site(&self, alloc: Global, site: Site) -> Result<Content, NoMemory>
+        requires frame { frame_of site ≡ self.now.frame }
+        ensures { IfOk result (λ made. made ≡ record self.now { bodies = bodies_of site }) }
+    {
+        let tables = shared_tables(alloc, &self.tables)?;
+        let site = Arc::new(alloc, site)?;
+        Ok(Content { site, tables })
+    }
+
     /// The same content with these texts in the row of a kind that is under a key.
     pub(crate) fn with_put(
         &self,
@@ -303,6 +347,16 @@ impl Content {
         text_or_empty(alloc, find_text(self.rows(kind), key, usize::from(field)))
     }
 
+    // A template's body as a value, which is shared where the template is there.
+    fn body_value(&self, alloc: Global, template: u16) -> Result<SharedBody, NoMemory>
+        ensures { IfOk result (λ made. made ≡ body_at self.now template) }
+    {
+        match self.site().templates().get(usize::from(template)) {
+            None => SharedBody::of(alloc, Body::of(Vec::new(alloc))),
+            Some(part) => part.body.share(),
+        }
+    }
+
     /// The keys of a kind, in order.
     pub fn keys(&self, alloc: Global, kind: u16) -> Result<KeyList, NoMemory>
         ensures { IfOk result (λ made. made ≡ keys self.now kind) }
@@ -338,10 +392,12 @@ impl Content {
             Item::Group { kind, field, key } => {
                 Ok(Value::Keys(self.group(alloc, *kind, *field, key)?))
             }
+            Item::Template { template } => Ok(Value::Body(self.body_value(alloc, *template)?)),
         }
     }
 
-    /// Whether an item has this value. It takes no memory; of a list or a group it walks the whole kind.
+    /// Whether an item has this value. It takes no memory; of a list or a group it walks the whole kind, of
+    /// a template its body.
     pub fn agrees(&self, item: &Item, seen: &Value) -> bool
         ensures { IsTrue result ↔ (value self.now item.now ≡ seen.now) }
     {
@@ -352,6 +408,7 @@ impl Content {
             Item::Group { kind, field, key } => {
                 are_group(self.rows(*kind), usize::from(*field), key, seen)
             }
+            Item::Template { template } => is_body(self.body_of(*template), seen),
         }
     }
 }

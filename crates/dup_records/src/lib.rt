@@ -7,6 +7,7 @@ mod change;
 mod changing;
 mod commit;
 mod content;
+mod journal;
 mod keys;
 mod refusal;
 mod rows;
@@ -16,6 +17,7 @@ pub use change::Change;
 pub use changing::changed;
 pub use commit::{Commit, Limits};
 pub use content::Content;
+pub use journal::JournalSize;
 pub use refusal::CommitRefusal;
 pub use rows::Entry;
 

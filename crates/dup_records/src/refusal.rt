@@ -1,5 +1,6 @@
 // Why a commit is refused.
 use dup_names::NoMemory;
+use dup_template::SiteRefusal;
 use thiserror::Error;
 
 /// Why a commit is refused. The numbers are those of the change that fails first, counted from 1.
@@ -20,6 +21,12 @@ pub enum CommitRefusal {
     /// The journal holds no more: it has so many commits, of so many bytes.
     #[error("journal full: {commits} commits, {bytes} bytes")]
     JournalFull { commits: u64, bytes: u64 },
+    /// The site has no such template.
+    #[error("unknown template at {0}")]
+    UnknownTemplate(u16),
+    /// The body breaks this rule as that of its template.
+    #[error("bad body at {0}: {1}")]
+    BadBody(u16, SiteRefusal),
     /// Want of memory.
     #[error("out of memory")]
     NoMemory,

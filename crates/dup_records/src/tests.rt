@@ -1,7 +1,7 @@
 use crate::{Change, Commit, CommitRefusal, Content, Limits, apply};
 use dup_lists::Listed;
-use dup_names::{Item, Key, Name, Text, Value};
-use dup_template::{KindPart, Parts, Site};
+use dup_names::{Item, Key, Name, Text};
+use dup_template::{KindPart, Parts, Site, Value};
 use std::alloc::Global;
 use std::sync::Arc;
 use std::test::Fail;

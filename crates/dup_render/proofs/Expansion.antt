@@ -5,9 +5,9 @@ use Rattle.dup_names.specs.Order.{item_cmp, text_cmp}
 use Rattle.dup_names.specs.Words.{in_order}
 use Rattle.dup_names.specs.declared.object.Item.{Item}
 use Rattle.dup_names.specs.declared.object.Obj.{Obj}
-use Rattle.dup_names.specs.declared.value.Value.{Value}
+use Rattle.dup_template.specs.declared.value.Value.{Value}
 use Rattle.dup_names.specs.declared.value.Skeleton.{Skeleton}
-use Rattle.dup_template.specs.declared.site.Parts.{Parts}
+use Rattle.dup_template.specs.Frame.{Frame}
 use Rattle.dup_model.specs.declared.mark.Mark.{Mark}
 use Rattle.dup_model.specs.Content.{Content, value}
 use Rattle.dup_model.specs.Expansions.{expansion}
@@ -21,11 +21,11 @@ with_values c ms = map (λ it. (it, value c it)) (in_order item_cmp (flat_map re
 abbrev links : List Mark → List (List ℕ)
 links ms = in_order text_cmp (flat_map goes_by ms)
 
-pub expansion_made : (site : Parts) (c : Content) (o : Obj) (ms : List Mark) (ns : List (Item × Value)) (s : Skeleton)
-    → ms ≡ marks c o → ns ≡ with_values c ms → s.pieces ≡ pieces ms → s.links ≡ links ms
-    → expansion site c o ≡ record { site = site; obj = o; notes = ns; skeleton = s }
-expansion_made site c o ms ns s of noted parts linked =
+pub expansion_made : (f : Frame) (c : Content) (o : Obj) (ms : List Mark) (ns : List (Item × Value)) (s : Skeleton)
+    → c.frame ≡ f → ms ≡ marks c o → ns ≡ with_values c ms → s.pieces ≡ pieces ms → s.links ≡ links ms
+    → expansion c o ≡ record { frame = f; obj = o; notes = ns; skeleton = s }
+expansion_made f c o ms ns s framed of noted parts linked =
     let all : notes c o ≡ ns = sym (noted ∙ ap (with_values c) of) in
     let own : pieces (marks c o) ≡ s.pieces = sym (parts ∙ ap pieces of) in
     let lead : links (marks c o) ≡ s.links = sym (linked ∙ ap links of) in
-    λ i. record { site = site; obj = o; notes = all i; skeleton = record { pieces = own i; links = lead i } }
+    λ i. record { frame = framed i; obj = o; notes = all i; skeleton = record { pieces = own i; links = lead i } }

@@ -1,17 +1,18 @@
 // What an expansion keeps.
 ghost use Rattle.std.specs.Prelude.{◌≡◌};
 ghost use Rattle.dup_model.specs.Expansions.{IsGoodExpansion};
+ghost use Rattle.dup_template.specs.Frame.{frame_of};
 
 use dup_lists::Listed;
-use dup_names::{Item, Obj, Skeleton, Value};
-use dup_template::Site;
+use dup_names::{Item, Obj, Skeleton};
+use dup_template::{Site, Value};
 use std::alloc::Global;
 use std::marker::Model;
 use std::sync::Arc;
 
-/// An expanded object of a site: its skeleton, and notes of the items that it read, in item order,
-/// each with its value. In each content of the site where these are the values, these are the items
-/// that it reads, and this is its skeleton.
+/// An expanded object: its skeleton, and notes of the items that it read, its template's body among them,
+/// in item order, each with its value. In each content of the same frame where these are the values,
+/// these are the items that it reads, and this is its skeleton.
 #[derive(Drop)]
 pub struct Expanded {
     site: Arc<Site, Global>,
@@ -24,20 +25,21 @@ impl Model for Expanded {
     ghost use Rattle.std.specs.Coded.{codes};
     ghost use Rattle.dup_template.specs.contracts.statement.Statement as statement;
     ghost use Rattle.dup_model.specs.Expansions.{Expansion, IsGoodExpansion};
+    ghost use Rattle.dup_template.specs.Frame.{frame_of};
 
     ghost Value = { Expansion };
 
     ghost coded = { Prim.hlevel (codes, statement.the_row.coded) };
 
     ghost view = { λ e. record {
-      site = e.site.value;
+      frame = frame_of e.site.value;
       obj = e.obj;
       notes = e.notes;
       skeleton = e.skeleton.value;
     } };
 
     ghost invariant = { λ e. IsGoodExpansion record {
-      site = e.site.value;
+      frame = frame_of e.site.value;
       obj = e.obj;
       notes = e.notes;
       skeleton = e.skeleton.value;
@@ -53,13 +55,13 @@ impl Expanded {
         skeleton: Arc<Skeleton, Global>,
     ) -> Expanded
         requires { IsGoodExpansion record {
-          site = site.value;
+          frame = frame_of site.value;
           obj = obj;
           notes = notes.items;
           skeleton = skeleton.value;
         } }
         ensures { result ≡ record {
-          site = site.value;
+          frame = frame_of site.value;
           obj = obj;
           notes = notes.items;
           skeleton = skeleton.value;
@@ -74,9 +76,9 @@ impl Expanded {
         }
     }
 
-    /// The site of the contents that it speaks of.
+    /// The site that was read, whose frame is that of the contents that it speaks of.
     pub fn site(&self) -> &Arc<Site, Global>
-        ensures { result.now.value ≡ self.now.site }
+        ensures { frame_of result.now.value ≡ self.now.frame }
     {
         &self.site
     }

@@ -3,7 +3,7 @@ ghost use Rattle.std.specs.Prelude.{◌≡◌, ◌+◌, ◌-◌, ◌^◌, min, m
 ghost use Rattle.std.specs.List.{flat_map};
 ghost use Rattle.dup_names.specs.Order.{item_cmp, text_cmp};
 ghost use Rattle.dup_names.specs.Words.{in_order};
-ghost use Rattle.dup_model.specs.Content.{IsOf, value};
+ghost use Rattle.dup_model.specs.Content.{value};
 ghost use Rattle.dup_model.specs.Expansions.{expansion};
 ghost use Rattle.dup_model.specs.Jobs.{IsJob};
 ghost use Rattle.dup_model.specs.Skeletons as skeletons;
@@ -14,8 +14,9 @@ use crate::pieces::pieces;
 use crate::show::marks_of;
 use dup_lists::Listed;
 use dup_model::Mark;
-use dup_names::{Item, Meter, NoMemory, Obj, Path, Skeleton, Value};
+use dup_names::{Item, Meter, NoMemory, Obj, Path, Skeleton};
 use dup_records::Content;
+use dup_template::Value;
 use std::alloc::Global;
 use std::sync::Arc;
 
@@ -96,8 +97,7 @@ pub fn expand(
     meter: &mut Meter,
 ) -> Result<Expanded, NoMemory>
     requires { IsJob content.now.frame obj.now }
-    ensures value { IfOk result (λ made. made ≡ expansion made.site content.now obj.now) }
-    ensures site { IfOk result (λ made. IsOf made.site content.now) }
+    ensures value { IfOk result (λ made. made ≡ expansion content.now obj.now) }
     ensures counted { OnOk result (meter.new ≡ min (meter.old + 1) (2 ^ 64 - 1)) }
     ensures refused { OnErr result (meter.new ≡ meter.old) }
 {

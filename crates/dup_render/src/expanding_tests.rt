@@ -1,8 +1,9 @@
 use crate::tests::{Row, content, key, name};
 use crate::{Expanded, expand, is_job};
-use dup_names::{Item, Key, Meter, Obj, Piece, Value};
+use dup_names::{Item, Key, Meter, Obj, Piece};
 use dup_records::Content;
 use dup_samples::RESULTS_SITE;
+use dup_template::Value;
 use std::alloc::Global;
 use std::str;
 use std::test::Fail;
@@ -52,6 +53,7 @@ fn item_text(alloc: Global, item: &Item) -> Result<String, Fail> {
         Item::Group { kind, field, key } => {
             format!(in alloc; "group {kind} {field} {}", text(key.bytes())?)?
         }
+        Item::Template { template } => format!(in alloc; "template {template}")?,
     };
     Ok(shown)
 }
@@ -70,6 +72,7 @@ fn value_text(alloc: Global, value: &Value) -> Result<String, Fail> {
         Value::Text(it) => format!(in alloc; " [{}]", text(it.bytes())?)?,
         Value::Exists(it) => format!(in alloc; " {it}")?,
         Value::Keys(it) => keys_text(alloc, it.items())?,
+        Value::Body(it) => format!(in alloc; " body {}", it.lines())?,
     };
     Ok(shown)
 }
@@ -149,7 +152,7 @@ fn an_event_notes_what_its_results_are_ordered_by(rt: HostRuntime) -> Result<(),
     let key = Some(key("e1")?);
     assert_eq!(rt; made.obj(), &Obj { template: 1, key });
     assert_eq!(rt; made.site().templates().len(), 2);
-    assert_eq!(rt; made.notes().len(), 5);
+    assert_eq!(rt; made.notes().len(), 6);
     assert_eq!(rt;
         notes_text(alloc, &made)?.as_str(),
         "field 0 e1 0: [100m]
@@ -157,6 +160,7 @@ field 1 r1 2: [2]
 field 1 r2 2: [10]
 field 1 r3 2: [9]
 group 1 0 e1: r1 r2 r3
+template 1: body 6
 "
     );
     assert_eq!(rt;
@@ -198,14 +202,25 @@ field 0 dee 1: [zed]
 row 0 bob: true
 row 0 zed: false
 list 0: ann bob cy dee
+template 1: body 14
 ",
             "plain Ann<a href=\"/person/bob\">*</a>Cy<a href=\"/person/bob\">*</a>Dee*<a href=\"/roll\">top</a><a href=\"/roll\">top</a>
 link /person/bob
 link /roll
 ",
         ),
-        ("pair", "ann", "", "hole 0 ann\nhole 0 ann\nplain ann\n"),
-        ("person_page", "zed", "field 0 zed 0: []\n", ""),
+        (
+            "pair",
+            "ann",
+            "template 2: body 3\n",
+            "hole 0 ann\nhole 0 ann\nplain ann\n",
+        ),
+        (
+            "person_page",
+            "zed",
+            "field 0 zed 0: []\ntemplate 0: body 1\n",
+            "",
+        ),
     ] {
         let made = expanded(alloc, &content, template, row, &mut meter)?;
         assert_eq!(rt; notes_text(alloc, &made)?.as_str(), notes, "at {template}");

@@ -22,6 +22,7 @@ mod target;
 
 pub use expanded::Expanded;
 pub use expanding::expand;
+pub use order::paths_in_order;
 pub use show::{is_job, show_plain};
 pub use target::Target;
 

@@ -60,7 +60,7 @@ pub(crate) fn items_in_order(items: Vec<Item>) -> Vec<Item>
 }
 
 /// These paths in their order, each once.
-pub(crate) fn paths_in_order(paths: Vec<Path>) -> Vec<Path>
+pub fn paths_in_order(paths: Vec<Path>) -> Vec<Path>
     ensures { result.items ≡ words.in_order text_cmp paths.items }
 {
     let mut paths = paths;

@@ -6,10 +6,10 @@ ghost use Rattle.dup_model.specs.Names.{kind_of};
 ghost use Rattle.dup_model.specs.Show.{show, show_below, shown};
 
 use crate::here::Here;
-use crate::marks::Marks;
+use crate::marks::{Marks, put};
 use crate::statements::put_body;
 use dup_model::Mark;
-use dup_names::{NoMemory, Obj};
+use dup_names::{Item, NoMemory, Obj};
 use dup_records::Content;
 use std::alloc::Global;
 
@@ -23,7 +23,7 @@ fn kind_from(content: &Content, template: u16) -> u16
     }
 }
 
-/// What the statements of an object give, up to each embedding.
+/// That an object's template is read, and what its statements give, up to each embedding.
 pub(crate) fn marks_of(alloc: Global, content: &Content, obj: &Obj) -> Result<Marks, NoMemory>
     ensures { IfOk result (λ made. made.items ≡ marks content.now obj.now) }
 {
@@ -32,7 +32,9 @@ pub(crate) fn marks_of(alloc: Global, content: &Content, obj: &Obj) -> Result<Ma
         key: obj.key,
     };
     let mut out = Vec::new(alloc);
-    let body = content.body_of(obj.template);
+    let template = obj.template;
+    put(Mark::Read(Item::Template { template }), &mut out)?;
+    let body = content.body_of(template);
     put_body(alloc, content, &here, body, &mut out)?;
     Ok(out)
 }

@@ -4,7 +4,6 @@ mod LinesSayParts
 mod WrittenLines
 mod SpelledLines
 mod OpenStack
-mod SpacedWords
 pub mod NamesRead
 mod StatementSizes
 mod GoesAlong
@@ -14,3 +13,12 @@ mod KeepsSaid
 mod SameFirstFault
 mod GoesAlongTooDeep
 mod KeepGoesAlong
+mod DraftLines
+mod LinesAgain
+mod BadLines
+mod LinesGoOn
+pub mod TextLines
+pub mod BodyTexts
+pub mod SaidBodies
+pub mod BodiesInTexts
+pub mod PlainLengths

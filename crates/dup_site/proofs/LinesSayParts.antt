@@ -17,34 +17,34 @@ use Rattle.dup_site.specs.Draft.{Draft, Open, blank, parts_of, opened, step, sai
 use Rattle.dup_site.specs.Canonical.{statement_lines, template_lines, site_lines, lines_step}
 
 -- an element more of what is open
-abbrev grown : Open → List Statement → Open
+abbrev pub grown : Open → List Statement → Open
 grown o ss = record { head = o.head; done = o.done ++ ss }
 
-abbrev after : Option Draft → (Draft → Option Draft) → Option Draft
+abbrev pub after : Option Draft → (Draft → Option Draft) → Option Draft
 after None rest = None
 after (Some d) rest = rest d
 
-abbrev steps : Draft → List SiteLine → Option Draft
+abbrev pub steps : Draft → List SiteLine → Option Draft
 steps d [] = Some d
 steps d (l ∷ ls) = after (step d l) (λ e. steps e ls)
 
-abbrev Lead : List SiteLine → List Statement → Type 0
+abbrev pub Lead : List SiteLine → List Statement → Type 0
 Lead ls ss = (d : Draft) (o : Open) (outer : List Open) (rest : List SiteLine) →
     steps (opened d (o ∷ outer)) (ls ++ rest) ≡ steps (opened d (grown o ss ∷ outer)) rest
 
-abbrev Leads : Statement → Type 0
+abbrev pub Leads : Statement → Type 0
 Leads s = Lead (statement_lines s) (s ∷ [])
 
-abbrev Kid : Type 0
+abbrev pub Kid : Type 0
 Kid = (s : Statement) × Leads s
 
-abbrev of_kids : List Kid → List Statement
+abbrev pub of_kids : List Kid → List Statement
 of_kids body = map (λ e. e.0) body
 
-abbrev body_lines : List Statement → List SiteLine
+abbrev pub body_lines : List Statement → List SiteLine
 body_lines body = flat_map (λ b. b) (map statement_lines body)
 
-body-leads : (body : List Kid) → Lead (body_lines (of_kids body)) (of_kids body)
+pub body-leads : (body : List Kid) → Lead (body_lines (of_kids body)) (of_kids body)
 body-leads [] d o outer rest = ap (λ ss. steps (opened d (record { head = o.head; done = ss } ∷ outer)) rest) (sym (append-nil o.done))
 body-leads (e ∷ es) d o outer rest =
     ap (λ ls. steps (opened d (o ∷ outer)) ls) (append_assoc (statement_lines e.0) (body_lines (of_kids es)) rest)
@@ -57,7 +57,7 @@ abbrev leads_enclosed : Head → List Statement → Statement → Type 0
 leads_enclosed h body s = (d : Draft) (o : Open) (outer : List Open) (rest : List SiteLine) →
     steps (opened d (record { head = h; done = [] } ∷ (o ∷ outer))) (body_lines body ++ (line.End ∷ rest)) ≡ steps (opened d (grown o (s ∷ []) ∷ outer)) rest
 
-within : (h : Head) (body : List Kid) (d : Draft) (outer : List Open) (rest : List SiteLine) →
+pub within : (h : Head) (body : List Kid) (d : Draft) (outer : List Open) (rest : List SiteLine) →
     steps (opened d (record { head = h; done = [] } ∷ outer)) ((body_lines (of_kids body) ++ line.End ∷ []) ++ rest)
     ≡ after (close h (of_kids body) (opened d outer) outer) (λ e. steps e rest)
 within h body d outer rest =
@@ -102,10 +102,10 @@ pub statement-leads : (s : Statement) → Leads s
 statement-leads = ind-Statement Leads (λ x y is. subst (λ z. Leads (roll-Statement z)) is (from_step y))
 
 -- a body's lines come as its statements
-kids : List Statement → List Kid
+pub kids : List Statement → List Kid
 kids body = map (λ s. (s, statement-leads s)) body
 
-of_kids-kids : (body : List Statement) → of_kids (kids body) ≡ body
+pub of_kids-kids : (body : List Statement) → of_kids (kids body) ≡ body
 unfolding kids
 of_kids-kids [] = refl
 of_kids-kids (s ∷ ss) = ap (λ xs. s ∷ xs) (of_kids-kids ss)
@@ -158,7 +158,7 @@ onward-said n None ls e more is none = cc
 onward-said n (Some d) ls e more is none = more d is none
 
 -- where each line may stand, what is said is the draft after them
-steps-said : (n : ℕ) (d : Draft) (ls : List SiteLine) (e : Draft) → steps d ls ≡ Some e → e.stack ≡ [] → said_from n d (map Some ls) ≡ Ok (parts_of e)
+pub steps-said : (n : ℕ) (d : Draft) (ls : List SiteLine) (e : Draft) → steps d ls ≡ Some e → e.stack ≡ [] → said_from n d (map Some ls) ≡ Ok (parts_of e)
 steps-said n d [] e is none =
     let same : d ≡ e = cc in
     subst (λ (x : Draft). finished n x x.stack ≡ Ok (parts_of e)) (sym same) (ap (λ os. finished n e os) none)

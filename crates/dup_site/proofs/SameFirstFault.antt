@@ -8,8 +8,7 @@ use Rattle.dup_names.specs.Words.{Word}
 use Rattle.dup_template.specs.Good.{Fault, Rule, in_turn, at_most, statement_fault, body_fault, field_fault, each_fault, link_fault, find_template}
 use Rattle.dup_template.specs.declared.refusal.SiteRefusal.TheVariants.{TooMany}
 use Rattle.dup_template.specs.declared.refusal.What.TheVariants.{Nesting}
-use Rattle.dup_template.specs.declared.site.Parts.{Parts}
-use Rattle.dup_template.specs.declared.site.TemplatePart.{TemplatePart}
+use Rattle.dup_template.specs.Frame.{Frame, Head}
 use Rattle.dup_template.specs.declared.statement.Statement.{Statement, roll-Statement}
 use Rattle.dup_template.specs.declared.statement.Statement.TheOpen.{Statement-F}
 use Rattle.dup_template.specs.declared.statement.Statement.TheVariants as s
@@ -34,7 +33,7 @@ or-first (Some x) b broken = refl
 or-some : (a b : Fault) → (b ≡ None → ⊥) → option_or a b ≡ None → ⊥
 or-some a b broken none = broken (or-none a b none).1
 
-module _ (site : Parts) (earlier : List TemplatePart) (own : Word) (kind : Option Word) where
+module _ (site : Frame) (earlier : List Head) (own : Word) (kind : Option Word) where
   body-append : (xs ys : List Statement) (depth : ℕ) →
       body_fault site earlier own (xs ++ ys) kind depth ≡ option_or (body_fault site earlier own xs kind depth) (body_fault site earlier own ys kind depth)
   body-append xs ys depth =
@@ -56,8 +55,8 @@ same_more depth xs ys a b r = record {
 
 -- behind the same statements, one each
 same-last : (depth : ℕ) (zs : List Statement) (x y : Statement) →
-    ((site : Parts) (earlier : List TemplatePart) (own : Word) (kind : Option Word) → statement_fault site earlier own x kind depth ≡ statement_fault site earlier own y kind depth) →
-    ((site : Parts) (earlier : List TemplatePart) (own : Word) (kind : Option Word) → statement_fault site earlier own x kind depth ≡ None → ⊥) →
+    ((site : Frame) (earlier : List Head) (own : Word) (kind : Option Word) → statement_fault site earlier own x kind depth ≡ statement_fault site earlier own y kind depth) →
+    ((site : Frame) (earlier : List Head) (own : Word) (kind : Option Word) → statement_fault site earlier own x kind depth ≡ None → ⊥) →
     BreakSame depth (zs ++ x ∷ []) (zs ++ y ∷ [])
 same-last depth zs x y same broken = record {
   same = λ site earlier own kind.
@@ -71,7 +70,7 @@ same-last depth zs x y same broken = record {
 }
 
 abbrev IsTooDeep : Statement → Type 0
-IsTooDeep x = (site : Parts) (earlier : List TemplatePart) (own : Word) (kind : Option Word) (depth : ℕ) → 8 < depth →
+IsTooDeep x = (site : Frame) (earlier : List Head) (own : Word) (kind : Option Word) (depth : ℕ) → 8 < depth →
     statement_fault site earlier own x kind depth ≡ Some (TooMany Nesting)
 
 abbrev Kid : Type 0
@@ -93,16 +92,16 @@ same_deep depth zs x y deep =
     (λ site earlier own kind. too-deep x site earlier own kind depth deep ∙ sym (too-deep y site earlier own kind depth deep))
     (λ site earlier own kind e. let bad : Some (TooMany Nesting) ≡ None = sym (too-deep x site earlier own kind depth deep) ∙ e in cc)
 
-rule-If : (site : Parts) (earlier : List TemplatePart) (own f : Word) (body : List Statement) (kind : Option Word) (depth : ℕ) →
+rule-If : (site : Frame) (earlier : List Head) (own f : Word) (body : List Statement) (kind : Option Word) (depth : ℕ) →
     statement_fault site earlier own (s.If f body) kind depth ≡ option_or (at_most 8 Nesting depth) (option_or (field_fault site own kind f) (body_fault site earlier own body kind (depth + 1)))
 rule-If site earlier own f body kind depth = rw (← rolls-If f body, fold-roll-Statement) refl
 
-rule-Each : (site : Parts) (earlier : List TemplatePart) (own of : Word) (by order : Option Word) (body : List Statement) (kind : Option Word) (depth : ℕ) →
+rule-Each : (site : Frame) (earlier : List Head) (own of : Word) (by order : Option Word) (body : List Statement) (kind : Option Word) (depth : ℕ) →
     statement_fault site earlier own (s.Each of by order body) kind depth
     ≡ option_or (at_most 8 Nesting depth) (option_or (each_fault site own kind of by order) (body_fault site earlier own body (Some of) (depth + 1)))
 rule-Each site earlier own of by order body kind depth = rw (← rolls-Each of by order body, fold-roll-Statement) refl
 
-rule-Link : (site : Parts) (earlier : List TemplatePart) (own name : Word) (via : Option Word) (body : List Statement) (kind : Option Word) (depth : ℕ) →
+rule-Link : (site : Frame) (earlier : List Head) (own name : Word) (via : Option Word) (body : List Statement) (kind : Option Word) (depth : ℕ) →
     statement_fault site earlier own (s.Link name via body) kind depth
     ≡ option_or (at_most 8 Nesting depth) (option_or (link_fault site own kind name via (find_template site.templates name)) (body_fault site earlier own body kind (depth + 1)))
 rule-Link site earlier own name via body kind depth = rw (← rolls-Link name via body, fold-roll-Statement) refl

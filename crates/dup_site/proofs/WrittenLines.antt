@@ -11,7 +11,8 @@ use Rattle.dup_template.specs.Texts.{is_plain, is_prefix, is_line_byte}
 use Rattle.dup_names.proofs.LineWords.{is_word_byte, is_word, space-no, bytes-of, words-law, name-word, path-word}
 use Rattle.dup_names.specs.LineWords.{line_words, trimmed, spaced, is_space}
 use Rattle.dup_names.specs.Lines.{text_lines, without_last, is_feed}
-use Rattle.dup_site.specs.Spelling.{line_of, by_start, say_line, by_words, line_text, is_spelled, is_spelled_head, is_spelled_page, is_named, with_word, head_words, page_words, text_says, written}
+use Rattle.dup_template.specs.BodyLines.{with_word}
+use Rattle.dup_site.specs.Spelling.{line_of, by_start, say_line, by_words, line_text, is_spelled, is_spelled_head, is_spelled_page, is_named, head_text, page_words, text_says, written}
 use Rattle.dup_template.specs.declared.site.Parts.{Parts}
 use Rattle.dup_site.specs.Draft.{said}
 use Rattle.dup_site.specs.Canonical.{site_lines}
@@ -177,7 +178,7 @@ line-law (line.Embed name (Some via)) h =
 line-law line.End h = line-words (codes "end" ∷ []) refl
 
 -- no line feed in a line
-abbrev is_free : List ℕ → Bool
+abbrev pub is_free : List ℕ → Bool
 is_free bytes = list_all (λ b. not (is_feed b)) bytes
 
 free-word : (w : Word) → list_all is_word_byte w ≡ true → is_free w ≡ true
@@ -212,20 +213,20 @@ all-append (x ∷ xs) ys p q =
 name-and : (name : Word) (ws : List Word) → is_name name ≡ true → list_all is_word ws ≡ true → list_all is_word (name ∷ ws) ≡ true
 name-and name ws p q = and_from (is_word name) (list_all is_word ws) (name-word name p) q
 
-free-head : (hd : Head) → is_spelled_head hd ≡ true → is_free (spaced (head_words hd)) ≡ true
+free-head : (hd : Head) → is_spelled_head hd ≡ true → is_free (head_text hd) ≡ true
 free-head (Template name kind) h =
     let both = and_parts (is_name name) (is_named kind) h in
-    free-spaced (head_words (Template name kind)) (name-and name (with_word (codes "of") kind) both.0 (with-words (codes "of") kind refl both.1))
+    free-spaced (codes "template" ∷ name ∷ with_word (codes "of") kind) (name-and name (with_word (codes "of") kind) both.0 (with-words (codes "of") kind refl both.1))
 free-head (If f) h = free-spaced (codes "if" ∷ f ∷ []) (name-and f [] h refl)
 free-head (Each kind by last) h =
     let three = and_parts (is_name kind && is_named by) (is_named last) h in
     let both = and_parts (is_name kind) (is_named by) three.0 in
-    free-spaced (head_words (Each kind by last))
+    free-spaced (codes "each" ∷ kind ∷ (with_word (codes "by") by ++ with_word (codes "order") last))
     (name-and kind (with_word (codes "by") by ++ with_word (codes "order") last) both.0
     (all-append (with_word (codes "by") by) (with_word (codes "order") last) (with-words (codes "by") by refl both.1) (with-words (codes "order") last refl three.1)))
 free-head (Link name via) h =
     let both = and_parts (is_name name) (is_named via) h in
-    free-spaced (head_words (Link name via)) (name-and name (with_word (codes "via") via) both.0 (with-words (codes "via") via refl both.1))
+    free-spaced (codes "link" ∷ name ∷ with_word (codes "via") via) (name-and name (with_word (codes "via") via) both.0 (with-words (codes "via") via refl both.1))
 
 free-page : (rule : PageRule) → is_spelled_page rule ≡ true → is_free (spaced (page_words rule)) ≡ true
 free-page (Fixed path name) h =
@@ -241,7 +242,7 @@ free-text (b ∷ bs) h =
     let both = and_parts (is_line_byte b) (list_all is_line_byte bs) h in
     and_from (not (is_feed b)) (is_free bs) (and_parts (not (nat_eq b 10)) (not (nat_eq b 13)) both.0).0 (free-text bs both.1)
 
-free-line : (l : SiteLine) → is_spelled l ≡ true → is_free (line_text l) ≡ true
+pub free-line : (l : SiteLine) → is_spelled l ≡ true → is_free (line_text l) ≡ true
 free-line line.Blank h = refl
 free-line (line.Kind name fields) h =
     let both = and_parts (is_name name) (list_all is_name fields) h in
@@ -261,7 +262,7 @@ free-line (line.Embed name via) h =
 free-line line.End h = refl
 
 -- a line before the others
-split-feed : (w rest : List ℕ) → is_free w ≡ true → slice_split is_feed ((w ++ 10 ∷ []) ++ rest) ≡ w ∷ slice_split is_feed rest
+pub split-feed : (w rest : List ℕ) → is_free w ≡ true → slice_split is_feed ((w ++ 10 ∷ []) ++ rest) ≡ w ∷ slice_split is_feed rest
 split-feed [] rest h = refl
 split-feed (b ∷ w) rest h =
     let both = and_parts (not (is_feed b)) (is_free w) h in
@@ -280,7 +281,7 @@ pub without-cons : (w rest : List ℕ) → without_last (w ∷ slice_split is_fe
 without-cons w [] = refl
 without-cons w (b ∷ rest) = without-split w b rest (is_feed b)
 
-lines-written : (ls : List SiteLine) → list_all is_spelled ls ≡ true → text_lines (flat_map (λ l. line_text l ++ 10 ∷ []) ls) ≡ map line_text ls
+pub lines-written : (ls : List SiteLine) → list_all is_spelled ls ≡ true → text_lines (flat_map (λ l. line_text l ++ 10 ∷ []) ls) ≡ map line_text ls
 lines-written [] h = refl
 lines-written (l ∷ ls) h =
     let both = and_parts (is_spelled l) (list_all is_spelled ls) h in

@@ -1,4 +1,4 @@
--- What the lines of a site text say, one line after another.
+-- What the lines of a site text say, one line after another. The law above: `texts_law`.
 use Rattle.std.specs.Prelude.{ℕ, ◌+◌, Bool, true, false, ◌&&◌, if◌then◌else◌, List, [], ◌∷◌, ◌++◌, Option}
 use Rattle.std.specs.Prelude.{Some, None, Result, Ok, Err}
 use Rattle.dup_template.specs.declared.site.Parts.{Parts}

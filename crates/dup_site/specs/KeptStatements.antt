@@ -8,6 +8,7 @@ use Rattle.dup_names.specs.declared.limits.TheConstants.{MAX_STATEMENTS, MAX_NES
 use Rattle.dup_template.specs.Good.{body_size, body_fault}
 use Rattle.dup_template.specs.declared.statement.Statement.{Statement}
 use Rattle.dup_template.specs.declared.statement.Statement.TheVariants as statement
+use Rattle.dup_template.specs.Frame.{Frame, Head as OwnHead}
 use Rattle.dup_template.specs.declared.site.Parts.{Parts}
 use Rattle.dup_template.specs.declared.site.TemplatePart.{TemplatePart}
 use Rattle.dup_site.specs.declared.site_line.SiteLine.{SiteLine}
@@ -21,10 +22,10 @@ use Rattle.dup_site.specs.Draft.{Draft, is_none, put, step}
 
 -- both break the same rule first, at this depth
 pub record BreakSame (depth : ℕ) (xs ys : List Statement) : Type 0 where
-  pub same : (site : Parts) (earlier : List TemplatePart) (own : Word) (kind : Option Word)
-      → body_fault site earlier own xs kind depth ≡ body_fault site earlier own ys kind depth
-  pub broken : (site : Parts) (earlier : List TemplatePart) (own : Word) (kind : Option Word)
-      → body_fault site earlier own xs kind depth ≡ None → ⊥
+  pub same : (frame : Frame) (earlier : List OwnHead) (own : Word) (kind : Option Word)
+      → body_fault frame earlier own xs kind depth ≡ body_fault frame earlier own ys kind depth
+  pub broken : (frame : Frame) (earlier : List OwnHead) (own : Word) (kind : Option Word)
+      → body_fault frame earlier own xs kind depth ≡ None → ⊥
 
 -- the same template; or both have more statements than a good one may; or both have as many, and break the
 -- same rule first

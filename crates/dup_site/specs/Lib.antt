@@ -6,3 +6,6 @@ pub mod KeptStatements
 pub mod Reads
 pub mod LineSpans
 pub mod Spelling
+pub mod SaidTexts
+pub mod SaidBody
+pub mod BodiesInTexts

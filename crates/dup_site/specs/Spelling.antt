@@ -5,6 +5,7 @@ use Rattle.std.specs.Prelude.{Option, Some, None, codes, Result}
 use Rattle.std.specs.List.{list_all, flat_map}
 use Rattle.std.specs.Str.{is_utf8}
 use Rattle.dup_names.specs.Grammar.{is_name, is_path}
+use Rattle.dup_template.specs.BodyLines.{each_text, embed_text, field_text, if_text, link_text, say_text, with_word}
 use Rattle.dup_template.specs.Texts.{is_plain, is_prefix}
 use Rattle.dup_template.specs.declared.site.Parts.{Parts}
 use Rattle.dup_template.specs.declared.site.PageRule.{PageRule}
@@ -125,16 +126,11 @@ line_of bytes = if is_utf8 bytes then by_start (trimmed bytes) else None
 abbrev pub text_says : List ℕ → Result Parts ℕ
 text_says text = said (map line_of (text_lines text))
 
-abbrev pub with_word : List ℕ → Option Word → List Word
-with_word word None = []
-with_word word (Some name) = word ∷ name ∷ []
-
-abbrev pub head_words : Head → List Word
-head_words (Template name kind) = codes "template" ∷ name ∷ with_word (codes "of") kind
-head_words (If f) = codes "if" ∷ f ∷ []
-head_words (Each kind by order) =
-    codes "each" ∷ kind ∷ (with_word (codes "by") by ++ with_word (codes "order") order)
-head_words (Link name via) = codes "link" ∷ name ∷ with_word (codes "via") via
+abbrev pub head_text : Head → Word
+head_text (Template name kind) = spaced (codes "template" ∷ name ∷ with_word (codes "of") kind)
+head_text (If f) = if_text f
+head_text (Each kind by order) = each_text kind by order
+head_text (Link name via) = link_text name via
 
 abbrev pub page_words : PageRule → List Word
 page_words (Fixed path name) = codes "page" ∷ path ∷ name ∷ []
@@ -145,12 +141,12 @@ abbrev pub line_text : SiteLine → List ℕ
 line_text Blank = []
 line_text (Kind name fields) = spaced (codes "kind" ∷ name ∷ fields)
 line_text (Page rule) = spaced (page_words rule)
-line_text (Open head) = spaced (head_words head)
-line_text (Say words) = codes "= " ++ words
+line_text (Open head) = head_text head
+line_text (Say words) = say_text words
 line_text Nl = codes "nl"
-line_text (Field f) = spaced (codes "field" ∷ f ∷ [])
+line_text (Field f) = field_text f
 line_text Key = codes "key"
-line_text (Embed name via) = spaced (codes "embed" ∷ name ∷ with_word (codes "via") via)
+line_text (Embed name via) = embed_text name via
 line_text End = codes "end"
 
 -- with a line feed after each line

@@ -5,8 +5,9 @@ ghost use Rattle.dup_site.specs.Drafted.{drafted, Goes};
 ghost use Rattle.dup_template.specs.declared.statement.Statement.TheVariants as statement;
 
 use crate::site_line::{Head, SiteLine};
-use dup_template::{Body, KindPart, PageRule, Statement, TemplatePart};
-use std::alloc::{AllocError, Global};
+use dup_names::NoMemory;
+use dup_template::{Body, KindPart, PageRule, SharedBody, Statement, TemplatePart};
+use std::alloc::Global;
 
 /// A template or a statement that is still open, and its statements so far.
 #[derive(Drop)]
@@ -25,7 +26,7 @@ pub struct SiteReading {
 }
 
 /// Whether the line may stand there.
-pub(crate) type Stands = Result<bool, AllocError>;
+pub(crate) type Stands = Result<bool, NoMemory>;
 
 #[tactic(auto, using(crate::proofs::OpenStack::outward_last))]
 fn put(reading: &mut SiteReading, statement: Statement) -> Stands
@@ -87,19 +88,15 @@ fn put_page(reading: &mut SiteReading, rule: PageRule) -> Stands
     }
 }
 
-fn close(reading: &mut SiteReading, head: Head, done: Vec<Statement>) -> Stands
+fn close(alloc: Global, reading: &mut SiteReading, head: Head, done: Vec<Statement>) -> Stands
     ensures { Goes result (drafted reading.new)
         (draft.close head done.items (drafted reading.old) (drafted reading.old).stack) }
 {
     match head {
-        Head::Template { name, kind } => put_template(
-            reading,
-            TemplatePart {
-                name,
-                kind,
-                body: Body::of(done),
-            },
-        ),
+        Head::Template { name, kind } => {
+            let body = SharedBody::of(alloc, Body::of(done))?;
+            put_template(reading, TemplatePart { name, kind, body })
+        }
         Head::If(field) => put(
             reading,
             Statement::If {
@@ -128,7 +125,7 @@ fn close(reading: &mut SiteReading, head: Head, done: Vec<Statement>) -> Stands
 }
 
 #[tactic(auto, using(crate::proofs::OpenStack::outward_last))]
-fn end(reading: &mut SiteReading) -> Stands
+fn end(alloc: Global, reading: &mut SiteReading) -> Stands
     ensures { Goes result (drafted reading.new)
         (draft.end (drafted reading.old) (drafted reading.old).stack) }
 {
@@ -136,7 +133,7 @@ fn end(reading: &mut SiteReading) -> Stands
         None => Ok(false),
         Some(open) => {
             let Open { head, done } = open;
-            close(reading, head, done)
+            close(alloc, reading, head, done)
         }
     }
 }
@@ -222,6 +219,6 @@ pub(crate) fn step(alloc: Global, reading: &mut SiteReading, line: SiteLine) -> 
         SiteLine::Field(field) => put(reading, Statement::Field(field)),
         SiteLine::Key => put(reading, Statement::Key),
         SiteLine::Embed { template, via } => put(reading, Statement::Embed { template, via }),
-        SiteLine::End => end(reading),
+        SiteLine::End => end(alloc, reading),
     }
 }

@@ -30,7 +30,7 @@ fn line_span(bytes: &[u8]) -> usize
 }
 
 /// The first line, and the text behind it.
-fn cut_line(text: &[u8]) -> (&[u8], &[u8])
+pub(crate) fn cut_line(text: &[u8]) -> (&[u8], &[u8])
     requires { 0 < length text.now }
     ensures lines { lines.text_lines text.now ≡ result.0.now ∷ lines.text_lines result.1.now }
     ensures shorter { length result.1.now < length text.now }

@@ -1,6 +1,6 @@
-use crate::{SiteTextRefusal, read_site, site_text};
-use dup_names::{Name, Path};
-use dup_template::{SiteRefusal, What};
+use crate::{SiteTextRefusal, body_lines, read_body, read_site, site_text};
+use dup_names::{Name, NoMemory, Path, Text};
+use dup_template::{SharedBody, Site, SiteRefusal, What};
 use std::alloc::{AllocError, Global};
 
 const SITE: &[u8] =
@@ -161,5 +161,133 @@ fn rules_are_looked_at_in_order(rt: HostRuntime) {
     for (text, refusal) in rows {
         let read = read_site(alloc, text.as_bytes()).err();
         assert!(rt; read == Some(SiteTextRefusal::Check(refusal)), "{text}");
+    }
+}
+
+fn texts(alloc: Global, lines: &[&str]) -> Result<Vec<Text>, NoMemory> {
+    let mut made = Vec::new(alloc);
+    for line in lines {
+        if let Some(text) = Text::read(alloc, line.as_bytes())? {
+            made.push(text)?;
+        }
+    }
+    Ok(made)
+}
+
+#[test]
+fn bodies_are_told_apart(rt: HostRuntime) {
+    let alloc = rt.alloc();
+    let rows: [(&str, &[&str], Option<u64>); 18] = [
+        ("none", &[], Some(0)),
+        ("three", &["= <b>", "field title", "= </b>"], Some(3)),
+        ("spaces", &["  field   title ", " = a ", "", "# b"], Some(2)),
+        (
+            "nested",
+            &[
+                "if a",
+                "each k by a order b",
+                "link t via a",
+                "end",
+                "end",
+                "end",
+            ],
+            Some(6),
+        ),
+        ("end alone", &["end"], None),
+        (
+            "end of the template",
+            &["nl", "end", "template u", "nl"],
+            None,
+        ),
+        ("end too many", &["if a", "end", "end"], None),
+        ("open if", &["if a", "nl"], None),
+        ("open each", &["each k", "if a", "end"], None),
+        ("kind", &["kind k"], None),
+        ("template", &["template u"], None),
+        ("page", &["page / t"], None),
+        ("family", &["family /p t"], None),
+        ("no form", &["nl", "fields a"], None),
+        ("feed in a comment", &["# a\n# b"], None),
+        ("feed behind a word", &["nl\n"], None),
+        ("two lines in one", &["nl\nnl"], None),
+        ("return in a text", &["= a\r"], None),
+    ];
+    for (name, lines, count) in rows {
+        let lines = texts(alloc, lines).ok().expect(&rt, "memory");
+        let body = read_body(alloc, lines.as_slice())
+            .ok()
+            .expect(&rt, "memory");
+        assert!(rt; body.map(|body| body.lines()) == count, "{name}");
+    }
+}
+
+#[test]
+fn body_is_written(rt: HostRuntime) {
+    let alloc = rt.alloc();
+    let lines = [
+        " each   k  order a",
+        "#",
+        "= <b> ",
+        "",
+        "embed u  via b",
+        " end ",
+    ];
+    let lines = texts(alloc, &lines).ok().expect(&rt, "memory");
+    let body = read_body(alloc, lines.as_slice())
+        .ok()
+        .flatten()
+        .expect(&rt, "a body");
+    let written = body_lines(alloc, &body).ok().expect(&rt, "memory");
+    let canonical = ["each k order a", "= <b> ", "embed u via b", "end"];
+    assert_eq!(rt; written.len(), canonical.len());
+    for i in 0..canonical.len() {
+        assert!(rt; written[i].bytes() == canonical[i].as_bytes(), "{i}");
+    }
+}
+
+fn nest(alloc: Global, depth: usize) -> Result<Vec<Text>, NoMemory> {
+    let mut lines = Vec::new(alloc);
+    for line in ["if f", "end"] {
+        let Some(text) = Text::read(alloc, line.as_bytes())? else {
+            return Ok(lines);
+        };
+        for _ in 0..depth {
+            lines.push(text.share()?)?;
+        }
+    }
+    Ok(lines)
+}
+
+fn refused(alloc: Global, site: &Site, body: &SharedBody) -> Option<SiteRefusal> {
+    if site.templates().is_empty() {
+        return None;
+    }
+    site.with_body(alloc, 0, body).err()
+}
+
+#[test]
+fn deep_bodies_are_answered(rt: HostRuntime) {
+    let alloc = rt.alloc();
+    let site = read_site(alloc, b"kind k f\ntemplate t of k\nend\n")
+        .ok()
+        .expect(&rt, "a site");
+    for (depth, answer) in [
+        (8, None),
+        (9, Some(SiteRefusal::TooMany(What::Nesting))),
+        (2048, Some(SiteRefusal::TooMany(What::Nesting))),
+    ] {
+        let lines = nest(alloc, depth).ok().expect(&rt, "memory");
+        let body = read_body(alloc, lines.as_slice())
+            .ok()
+            .flatten()
+            .expect(&rt, "a body");
+        assert_eq!(rt; body.longest(), 4);
+        assert!(rt; refused(alloc, &site, &body) == answer, "{depth}");
+        let written = body_lines(alloc, &body).ok().expect(&rt, "memory");
+        let again = read_body(alloc, written.as_slice()).ok().flatten();
+        assert!(rt; again == Some(body), "{depth}");
+        let end = lines.len().saturating_sub(1);
+        let cut = read_body(alloc, &lines[..end]).ok().expect(&rt, "memory");
+        assert!(rt; cut.is_none(), "{depth}");
     }
 }

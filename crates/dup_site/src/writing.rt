@@ -5,7 +5,8 @@ ghost use Rattle.dup_names.specs.Grammar.{is_name};
 ghost use Rattle.dup_site.specs.Reads.{site_says};
 ghost use Rattle.dup_site.specs.Spelling.{are_spelled, is_named, is_spelled, is_spelled_head};
 ghost use Rattle.dup_site.specs.Spelling.{is_spelled_page};
-ghost use Rattle.dup_site.specs.Spelling.{line_text, text_says, texts, with_word, written};
+ghost use Rattle.dup_site.specs.Spelling.{line_text, text_says, texts, written};
+ghost use Rattle.dup_template.specs.BodyLines.{with_word};
 ghost use Rattle.dup_names.specs.LineWords.{spaced};
 ghost use Rattle.dup_site.specs.Canonical.{enclosed, site_lines, statement_lines, template_lines};
 ghost use Rattle.dup_site.specs.declared.site_line.SiteLine.TheVariants as line;
@@ -49,7 +50,7 @@ fn put_marked(mark: &[u8], name: &Option<Name>, out: &mut Out) -> Result<(), All
 }
 
 /// A keyword, a name, and perhaps a mark and a name.
-#[tactic(auto, using(crate::proofs::SpacedWords::spaced_cons))]
+#[tactic(auto, using(dup_names::proofs::SpacedWords::spaced_cons))]
 fn put_named(
     keyword: &[u8],
     name: &Name,
@@ -86,7 +87,7 @@ fn put_say(text: &Plain, out: &mut Out) -> Result<(), AllocError>
     Ok(())
 }
 
-#[tactic(auto, using(crate::proofs::SpacedWords::spaced_cons, std::proofs::lemmas::Bool::and_from))]
+#[tactic(auto, using(dup_names::proofs::SpacedWords::spaced_cons, std::proofs::lemmas::Bool::and_from))]
 fn put_each(
     kind: &Name,
     by: &Option<Name>,
@@ -144,7 +145,7 @@ fn put_enclosed(head: &Head, body: &[Statement], out: &mut Out) -> Result<(), Al
 
 #[tactic(auto, using(crate::proofs::SpelledLines::all_append))]
 #[cycle(lines)]
-fn put_body(body: &[Statement], out: &mut Out) -> Result<(), AllocError>
+pub(crate) fn put_body(body: &[Statement], out: &mut Out) -> Result<(), AllocError>
     ensures text { OnOk result (out.new.items
         ≡ out.old.items ++ texts (flat_map (λ b. b) (map statement_lines body.now))) }
     ensures spelled { OnOk result (are_spelled (flat_map (λ b. b) (map statement_lines body.now))) }
@@ -222,7 +223,7 @@ fn put_names(names: &[Name], out: &mut Out) -> Result<(), AllocError>
     Ok(())
 }
 
-#[tactic(auto, using(crate::proofs::SpacedWords::spaced_cons))]
+#[tactic(auto, using(dup_names::proofs::SpacedWords::spaced_cons))]
 fn put_listed(keyword: &[u8], name: &Name, names: &[Name], out: &mut Out) -> Result<(), AllocError>
     ensures text { OnOk result (out.new.items
         ≡ out.old.items ++ (spaced (keyword.now ∷ name.now ∷ names.now) ++ 10 ∷ [])) }
@@ -246,7 +247,7 @@ fn put_kind(kind: &KindPart, out: &mut Out) -> Result<(), AllocError>
     Ok(())
 }
 
-#[tactic(auto, using(crate::proofs::SpacedWords::spaced_cons))]
+#[tactic(auto, using(dup_names::proofs::SpacedWords::spaced_cons))]
 fn put_two(keyword: &[u8], place: &[u8], name: &Name, out: &mut Out) -> Result<(), AllocError>
     ensures text { OnOk result (out.new.items
         ≡ out.old.items ++ (spaced (keyword.now ∷ place.now ∷ name.now ∷ []) ++ 10 ∷ [])) }

@@ -6,6 +6,7 @@ use Rattle.std.specs.List.{slice_get}
 use Rattle.std.specs.Option.{option_or}
 use Rattle.dup_template.specs.declared.refusal.What.TheVariants.{Kinds, Fields, Statements, Nesting}
 use Rattle.dup_template.specs.declared.refusal.SiteRefusal.TheVariants.{LaterTemplate}
+use Rattle.dup_template.specs.Frame.{Frame, Head, head_of, heads_of, frame_of}
 use Rattle.dup_template.specs.declared.site.Parts.{Parts}
 use Rattle.dup_template.specs.declared.site.KindPart.{KindPart}
 use Rattle.dup_template.specs.declared.site.TemplatePart.{TemplatePart}
@@ -17,39 +18,39 @@ use Rattle.dup_template.specs.Good.{has, at_most, first_from, template_names, te
 use Rattle.dup_template.proofs.GoodParts.{or-none, unless-none, at_most-none, good-parts}
 
 -- the rules hold of each template's body, with the templates before it
-rules-from : (site : Parts) (ts earlier : List TemplatePart) → first_from (template_fault site) earlier ts ≡ None →
-    (i : ℕ) (t : TemplatePart) → slice_get ts i ≡ Some t → body_fault site (earlier ++ take i ts) t.name t.body t.kind 1 ≡ None
+rules-from : (site : Frame) (ts earlier : List TemplatePart) → first_from (template_fault site) earlier ts ≡ None →
+    (i : ℕ) (t : TemplatePart) → slice_get ts i ≡ Some t → body_fault site (heads_of (earlier ++ take i ts)) t.name t.body t.kind 1 ≡ None
 rules-from site [] earlier none i t is = cc
 rules-from site (x ∷ ts) earlier none zero t is =
     let here = (or-none (template_fault site earlier x) (first_from (template_fault site) (earlier ++ x ∷ []) ts) none).0 in
-    let body = (or-none (at_most 4096 Statements (body_size x.body)) (body_fault site earlier x.name x.body x.kind 1) here).1 in
+    let body = (or-none (at_most 4096 Statements (body_size x.body)) (body_fault site (heads_of earlier) x.name x.body x.kind 1) here).1 in
     let same_part : x ≡ t = cc in
-    rw (append-nil earlier) (subst (λ (y : TemplatePart). body_fault site earlier y.name y.body y.kind 1 ≡ None) same_part body)
+    rw (append-nil earlier) (subst (λ (y : TemplatePart). body_fault site (heads_of earlier) y.name y.body y.kind 1 ≡ None) same_part body)
 rules-from site (x ∷ ts) earlier none (suc i) t is =
-    subst (λ (ys : List TemplatePart). body_fault site ys t.name t.body t.kind 1 ≡ None) (append_assoc earlier (x ∷ []) (take i ts))
+    subst (λ (ys : List TemplatePart). body_fault site (heads_of ys) t.name t.body t.kind 1 ≡ None) (append_assoc earlier (x ∷ []) (take i ts))
     (rules-from site ts (earlier ++ x ∷ []) (or-none (template_fault site earlier x) (first_from (template_fault site) (earlier ++ x ∷ []) ts) none).1 i t is)
 
 pub template_rules : (site : Parts) → site_fault site ≡ None → (i : ℕ) (t : TemplatePart) → slice_get site.templates i ≡ Some t →
-    body_fault site (take i site.templates) t.name t.body t.kind 1 ≡ None
-template_rules site good i t is = rules-from site site.templates [] (good-parts site good).bodies i t is
+    body_fault (frame_of site) (heads_of (take i site.templates)) t.name t.body t.kind 1 ≡ None
+template_rules site good i t is = rules-from (frame_of site) site.templates [] (good-parts site good).bodies i t is
 
 -- one statement after another
-pub body_rules : (site : Parts) (earlier : List TemplatePart) (own : Word) (x : Statement) (body : List Statement) (kind : Option Word) (depth : ℕ) →
+pub body_rules : (site : Frame) (earlier : List Head) (own : Word) (x : Statement) (body : List Statement) (kind : Option Word) (depth : ℕ) →
     body_fault site earlier own (x ∷ body) kind depth ≡ None → (statement_fault site earlier own x kind depth ≡ None) × (body_fault site earlier own body kind depth ≡ None)
 body_rules site earlier own x body kind depth h = or-none (statement_fault site earlier own x kind depth) (body_fault site earlier own body kind depth) h
 
-pub rule_If : (site : Parts) (earlier : List TemplatePart) (own f : Word) (body : List Statement) (kind : Option Word) (depth : ℕ) →
+pub rule_If : (site : Frame) (earlier : List Head) (own f : Word) (body : List Statement) (kind : Option Word) (depth : ℕ) →
     statement_fault site earlier own (s.If f body) kind depth
     ≡ option_or (at_most 8 Nesting depth) (option_or (field_fault site own kind f) (body_fault site earlier own body kind (depth + 1)))
 rule_If site earlier own f body kind depth = rw (← rolls-If f body, fold-roll-Statement) refl
 
-pub rule_Embed : (site : Parts) (earlier : List TemplatePart) (own name : Word) (via kind : Option Word) (depth : ℕ) →
+pub rule_Embed : (site : Frame) (earlier : List Head) (own name : Word) (via kind : Option Word) (depth : ℕ) →
     statement_fault site earlier own (s.Embed name via) kind depth
     ≡ option_or (at_most 8 Nesting depth) (embed_fault site earlier own kind name via (find_template site.templates name))
 rule_Embed site earlier own name via kind depth = rw (← rolls-Embed name via, fold-roll-Statement) refl
 
 -- an embedded template is among the earlier ones
-embedded-by : (site : Parts) (earlier : List TemplatePart) (own name : Word) (via kind : Option Word) (u : Option TemplatePart) →
+embedded-by : (site : Frame) (earlier : List Head) (own name : Word) (via kind : Option Word) (u : Option Head) →
     embed_fault site earlier own kind name via u ≡ None → has name (template_names earlier) ≡ true
 embedded-by site earlier own name via kind None h = cc
 embedded-by site earlier own name via kind (Some u) h =

@@ -12,6 +12,8 @@ use Rattle.std.proofs.lemmas.Slice.Eq.{bytes_eq-Decides}
 use Rattle.dup_names.specs.Grammar.{is_key, is_key_byte}
 use Rattle.dup_names.specs.declared.object.Obj.{Obj}
 use Rattle.dup_template.specs.declared.site.Parts.{Parts}
+use Rattle.dup_template.specs.Frame.{Head, head_of, heads_of}
+use Rattle.dup_template.proofs.GoodParts.{get-head}
 use Rattle.dup_template.specs.declared.site.KindPart.{KindPart}
 use Rattle.dup_template.specs.declared.site.TemplatePart.{TemplatePart}
 use Rattle.dup_template.specs.declared.site.PageRule.{PageRule}
@@ -38,7 +40,7 @@ Within-more x y xs h p none = h p (or_parts (list_any p xs) (list_any p (y ∷ [
 Within-last : {X : Type 0} (x : X) (xs : List X) → Within x (xs ++ x ∷ [])
 Within-last x xs p none = (or_parts (p x) false (or_parts (list_any p xs) (list_any p (x ∷ [])) (sym (list_any-append p xs (x ∷ [])) ∙ none)).1).0
 
-module _ (ts : List TemplatePart) where
+module _ (ts : List Head) where
   clear : (r0 r : PageRule) (earlier : List PageRule) → Within r0 earlier → page_fault ts earlier r ≡ None → meet r0 r ≡ false
   clear r0 r earlier h none =
       let a = or-none (shows_fault r (find_template ts (shown_by r))) _ none in
@@ -155,7 +157,7 @@ shown-meets (Family p of) (Family q u) (Some k) path s ok at is =
     let front : p ≡ q = same-front p q e.0 k (key-bytes e.0 e.2) (key-bytes k ok) both in
     rw front (same-refl q)
 
-module _ (ts : List TemplatePart) (key : Option Word) (path : Word) (ok : KeyOk key) where
+module _ (ts : List Head) (key : Option Word) (path : Word) (ok : KeyOk key) where
   none-shown : (x r : PageRule) → path_by (Some r) key ≡ Some path → meet x r ≡ false → (s : Option (Word × Option Word)) → shown_at path x ≡ s → s ≡ None
   none-shown x r at apart None is = refl
   none-shown x r at apart (Some s) is = absurd (false≢true (sym apart ∙ shown-meets x r key path s ok is at))
@@ -182,28 +184,28 @@ module _ (ts : List TemplatePart) (key : Option Word) (path : Word) (ok : KeyOk 
       (same (shown_by x) name) refl is
 
 -- a template's name has its own place
-any-names : (n : Word) (ts : List TemplatePart) → has n (template_names ts) ≡ list_any (λ y. same y.name n) ts
+any-names : (n : Word) (ts : List Head) → has n (template_names ts) ≡ list_any (λ y. same y.name n) ts
 any-names n [] = refl
 any-names n (t ∷ ts) = ap (λ b. same t.name n || b) (any-names n ts)
 
 module _ (kinds : List KindPart) where
-  apart : (t0 : TemplatePart) (rest earlier : List TemplatePart) → Within t0 earlier → first_from (head_fault kinds) earlier rest ≡ None →
-      (i : ℕ) (t : TemplatePart) → slice_get rest i ≡ Some t → same t0.name t.name ≡ false
+  apart : (t0 : Head) (rest earlier : List Head) → Within t0 earlier → first_from (head_fault kinds) earlier rest ≡ None →
+      (i : ℕ) (t : Head) → slice_get rest i ≡ Some t → same t0.name t.name ≡ false
   apart t0 [] earlier w none i t is = cc
   apart t0 (x ∷ rest) earlier w none zero t is =
       let both = or-none (head_fault kinds earlier x) (first_from (head_fault kinds) (earlier ++ x ∷ []) rest) none in
       let new = or-none (new_name (template_names earlier) x.name) (kind_known kinds x.kind) both.0 in
       let same_part : x ≡ t = cc in
-      subst (λ (y : TemplatePart). same t0.name y.name ≡ false) same_part
+      subst (λ (y : Head). same t0.name y.name ≡ false) same_part
       (w (λ y. same y.name x.name) (sym (any-names x.name earlier) ∙ not-not (has x.name (template_names earlier)) (unless-none (not (has x.name (template_names earlier))) _ new.0)))
   apart t0 (x ∷ rest) earlier w none (suc i) t is =
       apart t0 rest (earlier ++ x ∷ []) (Within-more t0 x earlier w) (or-none (head_fault kinds earlier x) (first_from (head_fault kinds) (earlier ++ x ∷ []) rest) none).1 i t is
 
-  own-place : (ts earlier : List TemplatePart) → first_from (head_fault kinds) earlier ts ≡ None → (i : ℕ) (t : TemplatePart) → slice_get ts i ≡ Some t → place t.name (template_names ts) ≡ i
+  own-place : (ts earlier : List Head) → first_from (head_fault kinds) earlier ts ≡ None → (i : ℕ) (t : Head) → slice_get ts i ≡ Some t → place t.name (template_names ts) ≡ i
   own-place [] earlier none i t is = cc
   own-place (x ∷ ts) earlier none zero t is =
       let same_part : x ≡ t = cc in
-      subst (λ (y : TemplatePart). place y.name (template_names (x ∷ ts)) ≡ 0) same_part (rw (same-refl x.name) refl)
+      subst (λ (y : Head). place y.name (template_names (x ∷ ts)) ≡ 0) same_part (rw (same-refl x.name) refl)
   own-place (x ∷ ts) earlier none (suc i) t is =
       let more = (or-none (head_fault kinds earlier x) (first_from (head_fault kinds) (earlier ++ x ∷ []) ts) none).1 in
       rw (apart x ts (earlier ++ x ∷ []) (Within-last x earlier) more i t is) (let rest = own-place ts (earlier ++ x ∷ []) more i t is in omega (arith, rest))
@@ -212,10 +214,10 @@ path-of-template : (site : Parts) → Good site → (o : Obj) (path : Word) → 
     (r : Option PageRule) → rule_of site.pages t.name ≡ r → path_by r o.key ≡ Some path → obj_at site path ≡ Some o
 path-of-template site good o path ok t at None found is = cc
 path-of-template site good o path ok t at (Some r) found is =
-    let pages = (or-none (at_most 256 Pages (length site.pages)) (first_from (page_fault site.templates) [] site.pages) good.pages).1 in
-    let heads = (or-none (at_most 256 Templates (length site.templates)) (first_from (head_fault site.kinds) [] site.templates) good.heads).1 in
-    let shown : first_shown path site.pages ≡ Some (t.name, o.key) = back site.templates o.key path ok site.pages [] t.name r pages found is in
-    rw shown (ap (λ n. Some (record { template = n; key = o.key })) (own-place site.kinds site.templates [] heads o.template t at))
+    let pages = (or-none (at_most 256 Pages (length site.pages)) (first_from (page_fault (heads_of site.templates)) [] site.pages) good.pages).1 in
+    let heads = (or-none (at_most 256 Templates (length (heads_of site.templates))) (first_from (head_fault site.kinds) [] (heads_of site.templates)) good.heads).1 in
+    let shown : first_shown path site.pages ≡ Some (t.name, o.key) = back (heads_of site.templates) o.key path ok site.pages [] t.name r pages found is in
+    rw shown (ap (λ n. Some (record { template = n; key = o.key })) (own-place site.kinds (heads_of site.templates) [] heads o.template (head_of t) (get-head site.templates o.template t at)))
 
 path-of-found : (site : Parts) → Good site → (o : Obj) (path : Word) → KeyOk o.key → (t : Option TemplatePart) → slice_get site.templates o.template ≡ t →
     path_in site t o.key ≡ Some path → obj_at site path ≡ Some o

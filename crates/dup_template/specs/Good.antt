@@ -2,7 +2,7 @@
 use Rattle.std.specs.Prelude.{◌≡◌, ℕ, ◌+◌, Bool, true, false, not, ◌&&◌, nat_eq, nat_lt, if◌then◌else◌}
 use Rattle.std.specs.Prelude.{List, [], ◌∷◌, ◌++◌, map, length, take, drop}
 use Rattle.std.specs.Prelude.{Option, Some, None, is_some, Result, Ok, Err}
-use Rattle.std.specs.List.{list_any, find, sum_by}
+use Rattle.std.specs.List.{list_any, find, slice_get, sum_by}
 use Rattle.std.specs.Option.{option_or}
 use Rattle.dup_names.specs.Words.{Word, same}
 use Rattle.dup_names.specs.Grammar.{is_key}
@@ -15,6 +15,7 @@ use Rattle.dup_template.specs.declared.refusal.SiteRefusal.{SiteRefusal}
 use Rattle.dup_template.specs.declared.refusal.SiteRefusal.TheVariants.{Twice, Unknown, LaterTemplate}
 use Rattle.dup_template.specs.declared.refusal.SiteRefusal.TheVariants.{WrongKind}
 use Rattle.dup_template.specs.declared.refusal.SiteRefusal.TheVariants.{NoPage, PathClash, TooMany, NoMemory}
+use Rattle.dup_template.specs.Frame.{Frame, Head, frame_of, head_of, heads_of}
 use Rattle.dup_template.specs.declared.site.Parts.{Parts}
 use Rattle.dup_template.specs.declared.site.KindPart.{KindPart}
 use Rattle.dup_template.specs.declared.site.TemplatePart.{TemplatePart}
@@ -62,7 +63,7 @@ abbrev pub kinds_fault : List KindPart → Fault
 kinds_fault ks = option_or (at_most MAX_KINDS Kinds (length ks)) (first_from kind_fault [] ks)
 
 -- 2. Heads of templates
-abbrev pub template_names : List TemplatePart → List Word
+abbrev pub template_names : List Head → List Word
 template_names ts = map (λ t. t.name) ts
 
 -- there is a kind of this name, where one is named
@@ -70,10 +71,10 @@ abbrev pub kind_known : List KindPart → Option Word → Fault
 kind_known kinds None = None
 kind_known kinds (Some k) = unless (has k (kind_names kinds)) (Unknown k)
 
-abbrev pub head_fault : List KindPart → List TemplatePart → TemplatePart → Fault
+abbrev pub head_fault : List KindPart → List Head → Head → Fault
 head_fault kinds earlier t = option_or (new_name (template_names earlier) t.name) (kind_known kinds t.kind)
 
-abbrev pub heads_fault : List KindPart → List TemplatePart → Fault
+abbrev pub heads_fault : List KindPart → List Head → Fault
 heads_fault kinds ts =
     option_or (at_most MAX_TEMPLATES Templates (length ts)) (first_from (head_fault kinds) [] ts)
 
@@ -113,10 +114,10 @@ is_of_its_kind (Fixed path of) kind = not (is_some kind)
 is_of_its_kind (Family prefix of) kind = is_some kind
 
 -- the template with this name
-abbrev pub find_template : List TemplatePart → Word → Option TemplatePart
+abbrev pub find_template : List Head → Word → Option Head
 find_template ts name = find (λ t. same t.name name) ts
 
-abbrev pub shows_fault : PageRule → Option TemplatePart → Fault
+abbrev pub shows_fault : PageRule → Option Head → Fault
 shows_fault rule None = Some (Unknown (shown_by rule))
 shows_fault rule (Some t) = unless (is_of_its_kind rule t.kind) (WrongKind (shown_by rule))
 
@@ -124,13 +125,13 @@ shows_fault rule (Some t) = unless (is_of_its_kind rule t.kind) (WrongKind (show
 abbrev pub declared : List PageRule → Word → Bool
 declared rules name = list_any (λ r. same (shown_by r) name) rules
 
-abbrev pub page_fault : List TemplatePart → List PageRule → PageRule → Fault
+abbrev pub page_fault : List Head → List PageRule → PageRule → Fault
 page_fault ts earlier rule =
     option_or (shows_fault rule (find_template ts (shown_by rule)))
     (option_or (unless (not (declared earlier (shown_by rule))) (Twice (shown_by rule)))
     (unless (not (list_any (λ r. meet r rule) earlier)) (PathClash (place_of rule))))
 
-abbrev pub pages_fault : List TemplatePart → List PageRule → Fault
+abbrev pub pages_fault : List Head → List PageRule → Fault
 pages_fault ts rules =
     option_or (at_most MAX_PAGE_RULES Pages (length rules)) (first_from (page_fault ts) [] rules)
 
@@ -143,29 +144,29 @@ abbrev pub fields_of : Option KindPart → List Word
 fields_of None = []
 fields_of (Some k) = k.fields
 
-abbrev pub field_known : Parts → Word → Word → Fault
-field_known site kind f = unless (has f (fields_of (find_kind site.kinds kind))) (Unknown f)
+abbrev pub field_known : Frame → Word → Word → Fault
+field_known frame kind f = unless (has f (fields_of (find_kind frame.kinds kind))) (Unknown f)
 
 -- the rule of `field F`, `if F` and `via F` in a template, at a current kind
-abbrev pub field_fault : Parts → Word → Option Word → Word → Fault
-field_fault site own None f = Some (WrongKind own)
-field_fault site own (Some kind) f = field_known site kind f
+abbrev pub field_fault : Frame → Word → Option Word → Word → Fault
+field_fault frame own None f = Some (WrongKind own)
+field_fault frame own (Some kind) f = field_known frame kind f
 
 abbrev pub key_fault : Word → Option Word → Fault
 key_fault own kind = unless (is_some kind) (WrongKind own)
 
-abbrev pub by_fault : Parts → Word → Option Word → Word → Option Word → Fault
-by_fault site own kind of None = None
-by_fault site own kind of (Some f) = option_or (key_fault own kind) (field_known site of f)
+abbrev pub by_fault : Frame → Word → Option Word → Word → Option Word → Fault
+by_fault frame own kind of None = None
+by_fault frame own kind of (Some f) = option_or (key_fault own kind) (field_known frame of f)
 
-abbrev pub order_fault : Parts → Word → Option Word → Fault
-order_fault site of None = None
-order_fault site of (Some f) = field_known site of f
+abbrev pub order_fault : Frame → Word → Option Word → Fault
+order_fault frame of None = None
+order_fault frame of (Some f) = field_known frame of f
 
-abbrev pub each_fault : Parts → Word → Option Word → Word → Option Word → Option Word → Fault
-each_fault site own kind of by order =
-    option_or (kind_known site.kinds (Some of))
-    (option_or (by_fault site own kind of by) (order_fault site of order))
+abbrev pub each_fault : Frame → Word → Option Word → Word → Option Word → Option Word → Fault
+each_fault frame own kind of by order =
+    option_or (kind_known frame.kinds (Some of))
+    (option_or (by_fault frame own kind of by) (order_fault frame of order))
 
 -- no kind, or the current one
 abbrev pub is_current : Option Word → Option Word → Bool
@@ -174,22 +175,22 @@ is_current None (Some k) = false
 is_current (Some c) (Some k) = same c k
 
 -- the rule on the kind of the embedded or linked template
-abbrev pub to_fault : Parts → Word → Option Word → Word → Option Word → Option Word → Fault
-to_fault site own current name None kind = unless (is_current current kind) (WrongKind name)
-to_fault site own current name (Some via) kind =
-    option_or (unless (is_some kind) (WrongKind name)) (field_fault site own current via)
+abbrev pub to_fault : Frame → Word → Option Word → Word → Option Word → Option Word → Fault
+to_fault frame own current name None kind = unless (is_current current kind) (WrongKind name)
+to_fault frame own current name (Some via) kind =
+    option_or (unless (is_some kind) (WrongKind name)) (field_fault frame own current via)
 
 abbrev pub embed_fault :
-    Parts → List TemplatePart → Word → Option Word → Word → Option Word → Option TemplatePart → Fault
-embed_fault site earlier own current name via None = Some (Unknown name)
-embed_fault site earlier own current name via (Some u) =
+    Frame → List Head → Word → Option Word → Word → Option Word → Option Head → Fault
+embed_fault frame earlier own current name via None = Some (Unknown name)
+embed_fault frame earlier own current name via (Some u) =
     option_or (unless (has name (template_names earlier)) (LaterTemplate name))
-    (to_fault site own current name via u.kind)
+    (to_fault frame own current name via u.kind)
 
-abbrev pub link_fault : Parts → Word → Option Word → Word → Option Word → Option TemplatePart → Fault
-link_fault site own current name via None = Some (Unknown name)
-link_fault site own current name via (Some u) =
-    option_or (unless (declared site.pages name) (NoPage name)) (to_fault site own current name via u.kind)
+abbrev pub link_fault : Frame → Word → Option Word → Word → Option Word → Option Head → Fault
+link_fault frame own current name via None = Some (Unknown name)
+link_fault frame own current name via (Some u) =
+    option_or (unless (declared frame.pages name) (NoPage name)) (to_fault frame own current name via u.kind)
 
 -- a rule, at a current kind and a depth
 abbrev pub Rule : Type 0
@@ -200,33 +201,33 @@ in_turn [] kind depth = None
 in_turn (r ∷ rs) kind depth = option_or (r kind depth) (in_turn rs kind depth)
 
 -- one statement of a template, with the rules of its body
-abbrev pub own_rule : Parts → List TemplatePart → Word → Statement-F Rule → Rule
-own_rule site earlier own (Statement-F.Say words) kind depth = None
-own_rule site earlier own Statement-F.Nl kind depth = None
-own_rule site earlier own (Statement-F.Field f) kind depth = field_fault site own kind f
-own_rule site earlier own Statement-F.Key kind depth = key_fault own kind
-own_rule site earlier own (Statement-F.If f body) kind depth =
-    option_or (field_fault site own kind f) (in_turn body kind (depth + 1))
-own_rule site earlier own (Statement-F.Each of by order body) kind depth =
-    option_or (each_fault site own kind of by order) (in_turn body (Some of) (depth + 1))
-own_rule site earlier own (Statement-F.Embed name via) kind depth =
-    embed_fault site earlier own kind name via (find_template site.templates name)
-own_rule site earlier own (Statement-F.Link name via body) kind depth =
-    option_or (link_fault site own kind name via (find_template site.templates name))
+abbrev pub own_rule : Frame → List Head → Word → Statement-F Rule → Rule
+own_rule frame earlier own (Statement-F.Say words) kind depth = None
+own_rule frame earlier own Statement-F.Nl kind depth = None
+own_rule frame earlier own (Statement-F.Field f) kind depth = field_fault frame own kind f
+own_rule frame earlier own Statement-F.Key kind depth = key_fault own kind
+own_rule frame earlier own (Statement-F.If f body) kind depth =
+    option_or (field_fault frame own kind f) (in_turn body kind (depth + 1))
+own_rule frame earlier own (Statement-F.Each of by order body) kind depth =
+    option_or (each_fault frame own kind of by order) (in_turn body (Some of) (depth + 1))
+own_rule frame earlier own (Statement-F.Embed name via) kind depth =
+    embed_fault frame earlier own kind name via (find_template frame.templates name)
+own_rule frame earlier own (Statement-F.Link name via body) kind depth =
+    option_or (link_fault frame own kind name via (find_template frame.templates name))
     (in_turn body kind (depth + 1))
 
 -- its depth first
-abbrev pub rule : Parts → List TemplatePart → Word → Statement-F Rule → Rule
-rule site earlier own s kind depth =
-    option_or (at_most MAX_NESTING Nesting depth) (own_rule site earlier own s kind depth)
+abbrev pub rule : Frame → List Head → Word → Statement-F Rule → Rule
+rule frame earlier own s kind depth =
+    option_or (at_most MAX_NESTING Nesting depth) (own_rule frame earlier own s kind depth)
 
 -- the first rule that a statement breaks
-abbrev pub statement_fault : Parts → List TemplatePart → Word → Statement → Rule
-statement_fault site earlier own = fold-Statement Rule (rule site earlier own)
+abbrev pub statement_fault : Frame → List Head → Word → Statement → Rule
+statement_fault frame earlier own = fold-Statement Rule (rule frame earlier own)
 
 -- the first rule that the statements of a body break
-abbrev pub body_fault : Parts → List TemplatePart → Word → List Statement → Rule
-body_fault site earlier own body = in_turn (map (statement_fault site earlier own) body)
+abbrev pub body_fault : Frame → List Head → Word → List Statement → Rule
+body_fault frame earlier own body = in_turn (map (statement_fault frame earlier own) body)
 
 -- the statements of a statement, itself included
 abbrev pub size_step : Statement-F ℕ → ℕ
@@ -251,23 +252,39 @@ body_size body = sum_by (λ n. n) (map size body)
 abbrev pub capped : ℕ → ℕ
 capped n = if nat_lt MAX_STATEMENTS n then MAX_STATEMENTS + 1 else n
 
--- the statements of a template: how many they are, and then their rules
-abbrev pub template_fault : Parts → List TemplatePart → TemplatePart → Fault
-template_fault site earlier t =
-    option_or (at_most MAX_STATEMENTS Statements (body_size t.body))
-    (body_fault site earlier t.name t.body t.kind 1)
+-- a template's statements, with the templates before it: how many they are, and then their rules
+abbrev pub body_broken : Frame → List Head → Head → List Statement → Fault
+body_broken frame earlier head body =
+    option_or (at_most MAX_STATEMENTS Statements (body_size body))
+    (body_fault frame earlier head.name body head.kind 1)
+
+abbrev pub template_fault : Frame → List TemplatePart → TemplatePart → Fault
+template_fault frame earlier t = body_broken frame (heads_of earlier) (head_of t) t.body
 
 abbrev pub bodies_fault : Parts → Fault
-bodies_fault site = first_from (template_fault site) [] site.templates
+bodies_fault site = first_from (template_fault (frame_of site)) [] site.templates
+
+-- the rule that a body breaks as that of a frame's template, if it is there
+abbrev pub broken_at : Frame → ℕ → List Statement → Option Head → Fault
+broken_at frame template body None = None
+broken_at frame template body (Some head) = body_broken frame (take template frame.templates) head body
+
+abbrev pub new_body_fault : Frame → ℕ → List Statement → Fault
+new_body_fault frame template body = broken_at frame template body (slice_get frame.templates template)
 
 -- the rules in their order
 abbrev pub site_fault : Parts → Fault
 site_fault site =
     option_or (kinds_fault site.kinds)
-    (option_or (heads_fault site.kinds site.templates)
-    (option_or (pages_fault site.templates site.pages)
-    (bodies_fault site)))
+    (option_or (heads_fault site.kinds (heads_of site.templates))
+    (option_or (pages_fault (heads_of site.templates) site.pages) (bodies_fault site)))
 
 -- parts that break no rule
 abbrev pub IsGood : Parts → Type 0
 IsGood site = site_fault site ≡ None
+
+-- a refusal is this fault, and there is none without it, unless memory runs out
+abbrev pub RefusedFor : Option SiteRefusal → Fault → Type 0
+RefusedFor None fault = fault ≡ None
+RefusedFor (Some NoMemory) fault = Unit {0}
+RefusedFor (Some why) fault = fault ≡ Some why

@@ -9,6 +9,7 @@ use Rattle.dup_template.specs.declared.site.TemplatePart.{TemplatePart}
 use Rattle.dup_template.specs.declared.site.PageRule.{PageRule}
 use Rattle.dup_template.specs.declared.site.PageRule.TheVariants.{Fixed, Family}
 use Rattle.dup_names.specs.Words.{Word, same, place}
+use Rattle.dup_template.specs.Frame.{heads_of}
 use Rattle.dup_template.specs.Good.{shown_by, behind, template_names}
 
 -- the declaration of a template, by its name
@@ -51,7 +52,7 @@ first_shown path (r ∷ rs) = option_or (shown_at path r) (first_shown path rs)
 -- the object whose page is at the path
 abbrev pub obj_at : Parts → Word → Option Obj
 obj_at site path =
-    option_map (λ s. record { template = place s.0 (template_names site.templates); key = s.1 })
+    option_map (λ s. record { template = place s.0 (template_names (heads_of site.templates)); key = s.1 })
     (first_shown path site.pages)
 
 -- a key, where there is one, is in its grammar

@@ -1,8 +1,9 @@
 // The rules on the statements of templates.
-ghost use Rattle.std.specs.Prelude.{◌≡◌, ◌≤◌, ◌+◌};
+ghost use Rattle.std.specs.Prelude.{◌≡◌, ◌≤◌, ◌<◌, ◌+◌, length};
 ghost use Rattle.std.specs.Option.{option_copied};
 ghost use Rattle.std.specs.Result.{result_err};
 ghost use Rattle.dup_names.specs.declared.limits.TheConstants.{MAX_STATEMENTS};
+ghost use Rattle.dup_template.specs.Frame.{frame_of, head_of, heads_of};
 ghost use Rattle.dup_template.specs.Good as good;
 
 use crate::check::{
@@ -34,7 +35,7 @@ fn has_field(site: &Parts, kind: &Name, field: &Name) -> bool
 }
 
 fn field_known(site: &Parts, kind: &Name, field: &Name) -> Checked
-    ensures { result_err result ≡ good.field_known site.now kind.now field.now }
+    ensures { result_err result ≡ good.field_known (frame_of site.now) kind.now field.now }
 {
     if has_field(site, kind, field) {
         Ok(())
@@ -44,7 +45,7 @@ fn field_known(site: &Parts, kind: &Name, field: &Name) -> Checked
 }
 
 fn field_holds(site: &Parts, own: &Name, kind: &Option<Name>, field: &Name) -> Checked
-    ensures { result_err result ≡ good.field_fault site.now own.now kind.now field.now }
+    ensures { result_err result ≡ good.field_fault (frame_of site.now) own.now kind.now field.now }
 {
     match kind {
         None => Err(SiteRefusal::WrongKind(*own)),
@@ -62,7 +63,7 @@ fn key_holds(own: &Name, kind: &Option<Name>) -> Checked
 }
 
 fn by_holds(site: &Parts, own: &Name, kind: &Option<Name>, of: &Name, by: &Option<Name>) -> Checked
-    ensures { result_err result ≡ good.by_fault site.now own.now kind.now of.now by.now }
+    ensures { result_err result ≡ good.by_fault (frame_of site.now) own.now kind.now of.now by.now }
 {
     match by {
         None => Ok(()),
@@ -74,7 +75,7 @@ fn by_holds(site: &Parts, own: &Name, kind: &Option<Name>, of: &Name, by: &Optio
 }
 
 fn order_holds(site: &Parts, of: &Name, order: &Option<Name>) -> Checked
-    ensures { result_err result ≡ good.order_fault site.now of.now order.now }
+    ensures { result_err result ≡ good.order_fault (frame_of site.now) of.now order.now }
 {
     match order {
         None => Ok(()),
@@ -90,7 +91,8 @@ fn each_holds(
     by: &Option<Name>,
     order: &Option<Name>,
 ) -> Checked
-    ensures { result_err result ≡ good.each_fault site.now own.now kind.now of.now by.now order.now }
+    ensures { result_err result
+        ≡ good.each_fault (frame_of site.now) own.now kind.now of.now by.now order.now }
 {
     kind_known(site.kinds.items(), &Some(*of))?;
     by_holds(site, own, kind, of, by)?;
@@ -117,7 +119,8 @@ fn to_holds(
     via: &Option<Name>,
     kind: &Option<Name>,
 ) -> Checked
-    ensures { result_err result ≡ good.to_fault site.now own.now current.now name.now via.now kind.now }
+    ensures { result_err result
+        ≡ good.to_fault (frame_of site.now) own.now current.now name.now via.now kind.now }
 {
     match via {
         None => {
@@ -145,8 +148,8 @@ fn embed_holds(
     via: &Option<Name>,
 ) -> Checked
     ensures { result_err result
-        ≡ good.embed_fault site.now earlier.now own.now current.now name.now via.now
-        (good.find_template site.now.templates name.now) }
+        ≡ good.embed_fault (frame_of site.now) (heads_of earlier.now) own.now current.now name.now via.now
+        (good.find_template (heads_of site.now.templates) name.now) }
 {
     match find_template(site.templates.items(), name) {
         None => Err(SiteRefusal::Unknown(*name)),
@@ -167,8 +170,8 @@ fn link_holds(
     via: &Option<Name>,
 ) -> Checked
     ensures { result_err result
-        ≡ good.link_fault site.now own.now current.now name.now via.now
-        (good.find_template site.now.templates name.now) }
+        ≡ good.link_fault (frame_of site.now) own.now current.now name.now via.now
+        (good.find_template (heads_of site.now.templates) name.now) }
 {
     match find_template(site.templates.items(), name) {
         None => Err(SiteRefusal::Unknown(*name)),
@@ -191,7 +194,8 @@ fn statement_holds(
     depth: usize,
 ) -> Checked
     ensures { result_err result
-        ≡ good.statement_fault site.now earlier.now own.now statement.now kind.now depth }
+        ≡ good.statement_fault (frame_of site.now) (heads_of earlier.now) own.now statement.now
+        kind.now depth }
 {
     at_most(MAX_NESTING, What::Nesting, depth)?;
     match statement {
@@ -235,7 +239,8 @@ fn body_holds(
     kind: &Option<Name>,
     depth: usize,
 ) -> Checked
-    ensures { result_err result ≡ good.body_fault site.now earlier.now own.now body.now kind.now depth }
+    ensures { result_err result
+        ≡ good.body_fault (frame_of site.now) (heads_of earlier.now) own.now body.now kind.now depth }
 {
     for statement in body {
         statement_holds(site, earlier, own, statement, kind, depth)?;
@@ -292,12 +297,32 @@ fn body_size(body: &[Statement]) -> usize
     n
 }
 
-fn template_holds(site: &Parts, earlier: &[TemplatePart], template: &TemplatePart) -> Checked
-    ensures { result_err result ≡ good.template_fault site.now earlier.now template.now }
+fn own_body_holds(
+    site: &Parts,
+    earlier: &[TemplatePart],
+    template: &TemplatePart,
+    body: &[Statement],
+) -> Checked
+    ensures { result_err result
+        ≡ good.body_broken (frame_of site.now) (heads_of earlier.now) (head_of template.now) body.now }
 {
-    let body = template.body.items();
     at_most(MAX_STATEMENTS, What::Statements, body_size(body))?;
     body_holds(site, earlier, &template.name, body, &template.kind, 1)
+}
+
+fn template_holds(site: &Parts, earlier: &[TemplatePart], template: &TemplatePart) -> Checked
+    ensures { result_err result ≡ good.template_fault (frame_of site.now) earlier.now template.now }
+{
+    own_body_holds(site, earlier, template, template.body.items())
+}
+
+/// Whether the rules hold of a body as that of the template with this number.
+pub(crate) fn new_body_holds(site: &Parts, template: usize, body: &[Statement]) -> Checked
+    requires { template < length site.now.templates }
+    ensures { result_err result ≡ good.new_body_fault (frame_of site.now) template body.now }
+{
+    let templates = site.templates.items();
+    own_body_holds(site, &templates[..template], &templates[template], body)
 }
 
 pub(crate) fn bodies_hold(site: &Parts) -> Checked

@@ -1,8 +1,9 @@
 // The rules on kinds, on heads of templates and on page declarations.
 ghost use Rattle.std.specs.Prelude.{◌≡◌, Some, [], map, ◌≤◌, OnOk};
 ghost use Rattle.std.specs.List.{list_any};
-ghost use Rattle.std.specs.Option.{option_copied};
+ghost use Rattle.std.specs.Option.{option_copied, option_map};
 ghost use Rattle.std.specs.Result.{result_err};
+ghost use Rattle.dup_template.specs.Frame.{head_of, heads_of};
 ghost use Rattle.dup_template.specs.Good as good;
 
 use crate::plain::Prefix;
@@ -95,7 +96,7 @@ pub(crate) fn kinds_fit(kinds: &[KindPart]) -> Checked
 }
 
 pub(crate) fn has_template(templates: &[TemplatePart], name: &Name) -> bool
-    ensures { result ≡ good.has name.now (good.template_names templates.now) }
+    ensures { result ≡ good.has name.now (good.template_names (heads_of templates.now)) }
 {
     for template in templates {
         if template.name == *name {
@@ -121,7 +122,7 @@ pub(crate) fn kind_known(kinds: &[KindPart], kind: &Option<Name>) -> Checked
 }
 
 fn new_head(kinds: &[KindPart], earlier: &[TemplatePart], template: &TemplatePart) -> Checked
-    ensures { result_err result ≡ good.head_fault kinds.now earlier.now template.now }
+    ensures { result_err result ≡ good.head_fault kinds.now (heads_of earlier.now) (head_of template.now) }
 {
     if has_template(earlier, &template.name) {
         return Err(SiteRefusal::Twice(template.name));
@@ -130,7 +131,7 @@ fn new_head(kinds: &[KindPart], earlier: &[TemplatePart], template: &TemplatePar
 }
 
 fn new_heads(kinds: &[KindPart], templates: &[TemplatePart]) -> Checked
-    ensures { result_err result ≡ good.first_from (good.head_fault kinds.now) [] templates.now }
+    ensures { result_err result ≡ good.first_from (good.head_fault kinds.now) [] (heads_of templates.now) }
 {
     for i in 0..templates.len() {
         new_head(kinds, &templates[..i], &templates[i])?;
@@ -139,7 +140,7 @@ fn new_heads(kinds: &[KindPart], templates: &[TemplatePart]) -> Checked
 }
 
 pub(crate) fn heads_fit(kinds: &[KindPart], templates: &[TemplatePart]) -> Checked
-    ensures { result_err result ≡ good.heads_fault kinds.now templates.now }
+    ensures { result_err result ≡ good.heads_fault kinds.now (heads_of templates.now) }
 {
     at_most(MAX_TEMPLATES, What::Templates, templates.len())?;
     new_heads(kinds, templates)
@@ -252,7 +253,8 @@ pub(crate) fn find_template<'a>(
     templates: &'a [TemplatePart],
     name: &Name,
 ) -> Option<&'a TemplatePart>
-    ensures { option_copied result ≡ good.find_template templates.now name.now }
+    ensures { option_map head_of (option_copied result)
+        ≡ good.find_template (heads_of templates.now) name.now }
 {
     for template in templates {
         if template.name == *name {
@@ -279,7 +281,7 @@ fn is_of_its_kind(rule: &PageRule, kind: &Option<Name>) -> bool
 
 fn shows_one(templates: &[TemplatePart], rule: &PageRule) -> Checked
     ensures { result_err result
-        ≡ good.shows_fault rule.now (good.find_template templates.now (good.shown_by rule.now)) }
+        ≡ good.shows_fault rule.now (good.find_template (heads_of templates.now) (good.shown_by rule.now)) }
 {
     let name = shown_by(rule);
     match find_template(templates, &name) {
@@ -295,7 +297,7 @@ fn shows_one(templates: &[TemplatePart], rule: &PageRule) -> Checked
 }
 
 fn new_page(templates: &[TemplatePart], earlier: &[PageRule], rule: &PageRule) -> Checked
-    ensures { result_err result ≡ good.page_fault templates.now earlier.now rule.now }
+    ensures { result_err result ≡ good.page_fault (heads_of templates.now) earlier.now rule.now }
 {
     shows_one(templates, rule)?;
     let name = shown_by(rule);
@@ -309,7 +311,7 @@ fn new_page(templates: &[TemplatePart], earlier: &[PageRule], rule: &PageRule) -
 }
 
 fn new_pages(templates: &[TemplatePart], rules: &[PageRule]) -> Checked
-    ensures { result_err result ≡ good.first_from (good.page_fault templates.now) [] rules.now }
+    ensures { result_err result ≡ good.first_from (good.page_fault (heads_of templates.now)) [] rules.now }
 {
     for i in 0..rules.len() {
         new_page(templates, &rules[..i], &rules[i])?;
@@ -318,7 +320,7 @@ fn new_pages(templates: &[TemplatePart], rules: &[PageRule]) -> Checked
 }
 
 pub(crate) fn pages_fit(templates: &[TemplatePart], rules: &[PageRule]) -> Checked
-    ensures { result_err result ≡ good.pages_fault templates.now rules.now }
+    ensures { result_err result ≡ good.pages_fault (heads_of templates.now) rules.now }
 {
     at_most(MAX_PAGE_RULES, What::Pages, rules.len())?;
     new_pages(templates, rules)

@@ -7,18 +7,27 @@
 
 mod bodies;
 mod check;
+mod laws;
+mod measure;
 mod numbers;
 mod paths;
 mod plain;
 mod refusal;
+mod same;
+mod shared_body;
 mod site;
 mod statement;
+mod value;
+mod with_body;
 
+pub use laws::same_bodies_law;
 pub use paths::{obj_of, page_path, path_of, row_path};
 pub use plain::{Plain, Prefix};
 pub use refusal::{SiteRefusal, SiteTextRefusal, What};
+pub use shared_body::SharedBody;
 pub use site::{KindPart, PageRule, Parts, Site, TemplatePart};
 pub use statement::{Body, Statement};
+pub use value::Value;
 
 #[cfg(test)]
 mod tests;

@@ -1,6 +1,7 @@
 // The numbers that names have in a site.
 ghost use Rattle.std.specs.Prelude.{◌≡◌, ◌≤◌, length};
 ghost use Rattle.dup_names.specs.Words.{place};
+ghost use Rattle.dup_template.specs.Frame.{heads_of};
 ghost use Rattle.dup_template.specs.Good.{kind_names, template_names};
 
 use crate::site::{KindPart, TemplatePart};
@@ -21,7 +22,7 @@ pub(crate) fn kind_place(kinds: &[KindPart], name: &Name) -> usize
 
 /// The place of the template with this name, or their number where there is none.
 pub(crate) fn template_place(templates: &[TemplatePart], name: &Name) -> usize
-    ensures value { result ≡ place name.now (template_names templates.now) }
+    ensures value { result ≡ place name.now (template_names (heads_of templates.now)) }
     ensures within { result ≤ length templates.now }
 {
     for (index, template) in templates.iter().enumerate() {

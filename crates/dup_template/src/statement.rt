@@ -1,5 +1,10 @@
 // The statements of templates.
+ghost use Rattle.std.specs.Cmp.{decided, partial_equiv_from_equiv};
+ghost use Rattle.dup_template.specs.SameBody.{same_statement};
+ghost use Rattle.dup_template.specs.SameStatement.{statement-Decides};
+
 use crate::plain::Plain;
+use crate::same::same_statement;
 use dup_lists::Listed;
 use dup_names::Name;
 
@@ -8,7 +13,7 @@ pub type Body = Listed<Statement>;
 
 /// A statement of a template; `via`, `by` and `order` name fields.
 #[cycle(statement)]
-#[derive(Debug, Drop, PartialEq, Eq)]
+#[derive(Debug, Drop)]
 pub enum Statement {
     Say(Plain),
     Nl,
@@ -33,4 +38,18 @@ pub enum Statement {
         via: Option<Name>,
         body: Body,
     },
+}
+
+impl PartialEq for Statement {
+    ghost eq = { same_statement };
+
+    ghost laws = { partial_equiv_from_equiv (decided same_statement statement-Decides) };
+
+    fn eq(&self, other: &Statement) -> bool {
+        same_statement(self, other)
+    }
+}
+
+impl Eq for Statement {
+    ghost laws = { decided same_statement statement-Decides };
 }

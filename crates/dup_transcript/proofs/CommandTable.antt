@@ -10,7 +10,7 @@ use Rattle.dup_names.proofs.LineWords.{is_word_byte, is_word, bytes-of, split-wo
 use Rattle.dup_names.specs.Grammar.{is_digit, is_path}
 use Rattle.dup_names.specs.LineWords.{line_words, is_space, spaced}
 use Rattle.dup_names.specs.Words.{Word}
-use Rattle.dup_transcript.specs.Commands.{Command, is_capacity, is_node, mode_of, line_command, by_words}
+use Rattle.dup_transcript.specs.Commands.{Feed, is_capacity, is_node, mode_of, line_command, by_words}
 use Rattle.dup_transcript.specs.CommandTable.{EachIsRead, mode_word}
 use Rattle.dup_transcript.specs.declared.command.Command.TheVariants.{Settle, Node, Get, NotBuilt}
 use Rattle.dup_model.specs.declared.mode.Mode.{Mode}
@@ -67,7 +67,7 @@ node_small n h = grind (arith, nat_tests)
 capacity_small : (n : ℕ) → is_capacity n ≡ true → n < 2 ^ 64
 capacity_small n h = grind (arith, nat_tests)
 
-module _ (feed : Word → Command) where
+module _ (feed : Feed) where
   no_message_read : (spaces : Word) → list_all is_space spaces ≡ true → line_command feed (codes "commit" ++ spaces) ≡ NotBuilt
   no_message_read [] h = refl
   no_message_read (b ∷ spaces) h =

@@ -13,13 +13,16 @@ use Rattle.dup_model.specs.Bundles.{bundle}
 use Rattle.dup_model.specs.Caches.{Cache}
 use Rattle.dup_model.specs.declared.mode.Mode.{Mode}
 use Rattle.dup_transcript.specs.Commands.{Command}
-use Rattle.dup_model.specs.Commits.{Commit}
+use Rattle.dup_model.specs.Commits.{Commit, Refusal}
 use Rattle.dup_model.specs.Content.{start}
 use Rattle.dup_model.specs.Editions.{Bundle, bundle_of, edition, history, looks, target_looks}
-use Rattle.dup_model.specs.Embeddings.{EmbedsEarlier}
+use Rattle.dup_model.specs.GoodSites.{HistoriesEmbedEarlier}
+use Rattle.dup_model.proofs.Histories.{fits_unless_refused, history_push}
+use Rattle.std.proofs.lemmas.Option.{none-some}
 use Rattle.dup_model.specs.Journal.{Limits, commit_refusal, unless_refused}
-use Rattle.dup_transcript.specs.MachinePlays.{CommandsLeaveReady, IsReady, IsTold, LastTold, MachinePlays, PlaysAreOne, PlaysExist, Settles, SettlesLeaveNothing, StandsFor, StartsReady}
-use Rattle.dup_transcript.specs.MachinePlays.Settles.{at_once, by_work}
+use Rattle.dup_transcript.specs.MachinePlays.{CommandsLeaveReady, IsReady, IsTold, MachinePlays, PlaysAreOne, PlaysExist, SettlesLeaveNothing, StandsFor, StartsReady}
+use Rattle.dup_machine.specs.Settle.Settles.{at_once, by_work}
+use Rattle.dup_machine.specs.Until.{LastTold}
 use Rattle.dup_model.specs.Needs.{changed}
 use Rattle.dup_machine.specs.Nodes.{node_made, requested, with_node}
 use Rattle.dup_model.specs.Pages.{Target, live}
@@ -27,10 +30,9 @@ use Rattle.dup_machine.specs.Press.{published_by, target_of}
 use Rattle.dup_machine.specs.Presses.{commit_told, version_of}
 use Rattle.dup_machine.specs.Run.{run, step}
 use Rattle.dup_machine.specs.Status.{NothingPending}
-use Rattle.dup_machine.specs.Settle.{IsPublished, IsSettled, counts_of, publishes, settling}
-use Rattle.dup_transcript.specs.Texts.{not_built_text, settled_text, told_text}
-use Rattle.dup_model.specs.Touched.{expanded}
-use Rattle.dup_model.specs.Versions.{content, target_content}
+use Rattle.dup_machine.specs.Settle.{IsSettled, Settles, counts_of, publishes, publishing, settling}
+use Rattle.dup_transcript.specs.Texts.{bad_feed_text, not_built_text, settled_text, told_text}
+use Rattle.dup_model.specs.Versions.{IsHistory, content, target_content}
 use Rattle.dup_model.specs.Pages.{target_at}
 use Rattle.dup_machine.specs.World.{Counts, Event, Told, World, answered, first_world, told}
 use Rattle.dup_machine.specs.World.Begun.{Nothing}
@@ -40,9 +42,10 @@ use Rattle.dup_machine.specs.World.Told.{Begins, Finished, NodeMade, NodeTaken, 
 use Rattle.dup_transcript.specs.declared.command.Command.TheVariants as command
 use Rattle.dup_model.proofs.BundleFacts.{bundle_is_none}
 use Rattle.dup_machine.proofs.Pending.{last_target}
-use Rattle.dup_machine.proofs.Publishing.{publish_ends}
-use Rattle.dup_transcript.proofs.Reports.{begins_nothing, none_reported, nothing_new, report_is, settle_counts, target_case, told_once}
-use Rattle.dup_machine.proofs.Settling.{nothing_is_done, settle_reports}
+use Rattle.dup_machine.proofs.Ending.{settle_ends}
+use Rattle.dup_machine.proofs.LastReply.{told_once}
+use Rattle.dup_transcript.proofs.Reports.{begins_nothing, none_worked, nothing_new, report_is, settle_counts, target_case}
+use Rattle.dup_machine.proofs.NothingDone.{nothing_is_done}
 
 -- two states that differ in their replies and slots alone
 pub record Alike (v u : World) : Type 0 where
@@ -102,11 +105,11 @@ module _ (site : Parts) (limits : Limits) where
       λ i. published_by (same_target v u a i) (version_of (a.target i)) (same_next v u a i) v in
       subst (λ x. Alike x (step site limits u Publish)) (sym goes) (published_alike (target_of site u u.target) (version_of u.target) (next_of u) v u a)
 
-  published_ready : (t : Target) (n : ℕ) (o : Option (List Path)) (w : World) → IsReady w → IsReady (published_by t n o w)
-  published_ready t n None w r = record { idle = r.idle; slot = r.slot }
-  published_ready t n (Some paths) w r = record { idle = r.idle; slot = r.slot }
+  published_ready : (t : Target) (n : ℕ) (o : Option (List Path)) (w : World) → IsReady site w → IsReady site (published_by t n o w)
+  published_ready t n None w r = record { idle = r.idle; slot = r.slot; allowed = r.allowed }
+  published_ready t n (Some paths) w r = record { idle = r.idle; slot = r.slot; allowed = r.allowed }
 
-  publishes_ready : (n : ℕ) (w : World) → IsReady w → IsReady (fold (step site limits) w (publishes n))
+  publishes_ready : (n : ℕ) (w : World) → IsReady site w → IsReady site (fold (step site limits) w (publishes n))
   publishes_ready zero w r = r
   publishes_ready (suc n) w r = publishes_ready n (step site limits w Publish) (published_ready (target_of site w w.target) (version_of w.target) (next_of w) w r)
 
@@ -154,32 +157,21 @@ module _ (site : Parts) (limits : Limits) where
   publishes_same (suc n) (suc m) v u a first second one two =
       publishes_same n m (step site limits v Publish) (step site limits u Publish) (publish_alike v u a) (done_after v) (done_after u) one two
 
-  -- publishing comes to an end
-
   publishes_snoc : (n : ℕ) (w : World) → fold (step site limits) w (publishes (suc n)) ≡ step site limits (fold (step site limits) w (publishes n)) Publish
   publishes_snoc zero w = refl
   publishes_snoc (suc n) w = publishes_snoc n (step site limits w Publish)
 
-  publishing_ends : (w : World) → (n : ℕ) × LastTold (fold (step site limits) w (publishes n)) NothingChanged
-  publishing_ends w =
-      let e : (n : ℕ) × IsPublished site w (fold (step site limits) w (publishes n)) = publish_ends site limits w in
-      let same : target_of site (fold (step site limits) w (publishes e.0)) (fold (step site limits) w (publishes e.0)).target ≡ target_of site w w.target =
-      by_version (fold (step site limits) w (publishes e.0)) (fold (step site limits) w (publishes e.0)).target e.1.commits ∙ ap (target_of site w) e.1.target in
-      let done : IsDone (fold (step site limits) w (publishes e.0)) =
-      (bundle_is_none (edition (fold (step site limits) w (publishes e.0)).log) (target_of site (fold (step site limits) w (publishes e.0)) (fold (step site limits) w (publishes e.0)).target)).1
-      (λ p. ap (λ (t : Target). changed (looks (edition (fold (step site limits) w (publishes e.0)).log)) (target_looks t) p) same ∙ e.1.none p) in
-      (suc e.0, ((fold (step site limits) w (publishes e.0)).replies, ap (λ u. u.replies) (publishes_snoc e.0 w ∙ done_goes (fold (step site limits) w (publishes e.0)) done)))
-    where
-      by_version : (v : World) (t : Option ℕ) → v.commits ≡ w.commits → target_of site v t ≡ target_of site w t
-      by_version v None is = refl
-      by_version v (Some i) is = ap (λ (cs : List Commit). target_at site cs i) is
+  -- so many bundles and one publish more are so many publishes
+  publishing_is : (n : ℕ) → publishing n ≡ publishes (suc n)
+  publishing_is zero = refl
+  publishing_is (suc n) = ap (λ events. Publish ∷ events) (publishing_is n)
 
   -- what a settle comes to, before it publishes, and what it publishes
   record Outcome (w : World) (events : List Event) (counts : Counts) : Type 0 where
     pub before : World
     pub commits : before.commits ≡ w.commits
     pub target : before.target ≡ Some (length w.commits)
-    pub ready : IsReady before
+    pub ready : IsReady site before
     pub log : before.log ≡ w.log
     pub nodes : before.nodes ≡ w.nodes
     pub unpublished : LastTold before NothingChanged → ⊥
@@ -188,43 +180,43 @@ module _ (site : Parts) (limits : Limits) where
     pub last : LastTold (fold (step site limits) before (publishes count)) NothingChanged
     pub counted : counts ≡ counts_of (target_content site w.commits w.target) (content site w.commits) (length w.commits)
 
-  module _ (earlier : EmbedsEarlier (start site)) where
-    settle_comes : (w : World) (events : List Event) (counts : Counts) → IsReady w → Settles site limits w events counts → Outcome w events counts
-    settle_comes w _ _ r (by_work k m n counts report last) = elim (target_case w.target (length w.commits)) [
-      | inl new ↦ absurd (none_reported site limits w earlier r.idle r.slot k m counts new report)
+  module _ (earlier : HistoriesEmbedEarlier site) where
+    settle_comes : (w : World) (events : List Event) (counts : Counts) → IsReady site w → Settles site limits w events counts → Outcome w events counts
+    settle_comes w _ _ r (by_work k m n counts worked report published) = elim (target_case w.target (length w.commits)) [
+      | inl new ↦ absurd (none_worked site limits w (earlier w.commits r.allowed) r.idle r.slot k m new worked)
       | inr other ↦
-          let is : IsSettled w (settle_counts site limits w earlier r.idle r.slot) (fold (step site limits) w (settling k m)) × (counts ≡ settle_counts site limits w earlier r.idle r.slot) =
-          report_is site limits w earlier r.idle r.slot k m counts other report in
-          let goes : fold (step site limits) w (settling k m ++ publishes n) ≡ fold (step site limits) (fold (step site limits) w (settling k m)) (publishes n) =
-          fold-append (step site limits) w (settling k m) (publishes n) in
+          let is : IsSettled w (settle_counts site limits w (earlier w.commits r.allowed) r.idle r.slot) (fold (step site limits) w (settling k m)) × (counts ≡ settle_counts site limits w (earlier w.commits r.allowed) r.idle r.slot) =
+          report_is site limits w (earlier w.commits r.allowed) r.idle r.slot k m counts other worked report in
+          let goes : fold (step site limits) w (settling k m ++ publishing n) ≡ fold (step site limits) (fold (step site limits) w (settling k m)) (publishes (suc n)) =
+          fold-append (step site limits) w (settling k m) (publishing n) ∙ ap (fold (step site limits) (fold (step site limits) w (settling k m))) (publishing_is n) in
           record {
             before = fold (step site limits) w (settling k m);
             commits = is.0.commits;
             target = is.0.target;
-            ready = record { idle = is.0.idle; slot = is.0.slot };
+            ready = record { idle = is.0.idle; slot = is.0.slot; allowed = subst (IsHistory site) (sym is.0.commits) r.allowed };
             log = is.0.log;
             nodes = is.0.nodes;
             unpublished = λ tells. absurd (let e : Finished (Report counts) ≡ NothingChanged = told_once (fold (step site limits) w (settling k m)) (Finished (Report counts)) NothingChanged report tells in cc);
-            count = n;
+            count = suc n;
             ends = goes;
-            last = subst (λ u. LastTold u NothingChanged) goes last;
+            last = subst (λ events. LastTold (fold (step site limits) (fold (step site limits) w (settling k m)) events) NothingChanged) (publishing_is n) published.0;
             counted = is.1;
           }
     ]
-    settle_comes w _ _ r (at_once v n tells last) =
-        let new : (w.target ≡ Some (length w.commits)) × (v ≡ length w.commits) = nothing_new site limits w earlier r.idle r.slot v tells in
-        let goes : step site limits w Begin ≡ told (Begins (Nothing (length w.commits))) w = begins_nothing site limits w earlier r.idle r.slot new.0 in
+    settle_comes w _ _ r (at_once v n tells published) =
+        let new : (w.target ≡ Some (length w.commits)) × (v ≡ length w.commits) = nothing_new site limits w (earlier w.commits r.allowed) r.idle r.slot v tells in
+        let goes : step site limits w Begin ≡ told (Begins (Nothing (length w.commits))) w = begins_nothing site limits w (earlier w.commits r.allowed) r.idle r.slot new.0 in
         record {
           before = step site limits w Begin;
           commits = ap (λ u. u.commits) goes;
           target = ap (λ u. u.target) goes ∙ new.0;
-          ready = subst IsReady (sym goes) (record { idle = r.idle; slot = r.slot });
+          ready = subst (IsReady site) (sym goes) (record { idle = r.idle; slot = r.slot; allowed = r.allowed });
           log = ap (λ u. u.log) goes;
           nodes = ap (λ u. u.nodes) goes;
           unpublished = λ more. absurd (let e : Begins (Nothing v) ≡ NothingChanged = told_once (step site limits w Begin) (Begins (Nothing v)) NothingChanged tells more in cc);
-          count = n;
-          ends = refl;
-          last = last;
+          count = suc n;
+          ends = ap (fold (step site limits) (step site limits w Begin)) (publishing_is n);
+          last = subst (λ events. LastTold (fold (step site limits) (step site limits w Begin) events) NothingChanged) (publishing_is n) published.0;
           counted = (λ i. record { version = new.1 i; expanded = 0; joined = 0; kept = length (live (content site w.commits)) })
               ∙ sym (ap (λ (t : Option ℕ). counts_of (target_content site w.commits t) (content site w.commits) (length w.commits)) new.0
               ∙ ap (λ (cs : List Commit). counts_of (Some (content site cs)) (content site w.commits) (length w.commits)) (take-length w.commits)
@@ -235,11 +227,11 @@ module _ (site : Parts) (limits : Limits) where
     record SameTurn (w x : World) (a b : List Event) (said heard : Word) : Type 0 where
       pub texts : said ≡ heard
       pub alike : Alike (fold (step site limits) w a) (fold (step site limits) x b)
-      pub ready : IsReady (fold (step site limits) w a)
-      pub ready_too : IsReady (fold (step site limits) x b)
+      pub ready : IsReady site (fold (step site limits) w a)
+      pub ready_too : IsReady site (fold (step site limits) x b)
 
-    settles_same : (w x : World) (a b : List Event) (counts found : Counts) → Alike w x → IsReady w → IsReady x → Settles site limits w a counts → Settles site limits x b found
-        → (counts ≡ found) × Alike (fold (step site limits) w a) (fold (step site limits) x b) × IsReady (fold (step site limits) w a) × IsReady (fold (step site limits) x b)
+    settles_same : (w x : World) (a b : List Event) (counts found : Counts) → Alike w x → IsReady site w → IsReady site x → Settles site limits w a counts → Settles site limits x b found
+        → (counts ≡ found) × Alike (fold (step site limits) w a) (fold (step site limits) x b) × IsReady site (fold (step site limits) w a) × IsReady site (fold (step site limits) x b)
     settles_same w x a b counts found alike r q one two =
         let h : Outcome w a counts = settle_comes w a counts r one in
         let k : Outcome x b found = settle_comes x b found q two in
@@ -254,8 +246,8 @@ module _ (site : Parts) (limits : Limits) where
         publishes_same h.count k.count h.before k.before before (λ tells. absurd (h.unpublished tells)) (λ tells. absurd (k.unpublished tells)) h.last k.last in (
           h.counted ∙ (λ i. counts_of (target_content site (alike.commits i) (alike.target i)) (content site (alike.commits i)) (length (alike.commits i))) ∙ sym k.counted,
           subst (λ v. Alike v (fold (step site limits) x b)) (sym h.ends) (subst (Alike (fold (step site limits) h.before (publishes h.count))) (sym k.ends) after),
-          subst IsReady (sym h.ends) (publishes_ready h.count h.before h.ready),
-          subst IsReady (sym k.ends) (publishes_ready k.count k.before k.ready),
+          subst (IsReady site) (sym h.ends) (publishes_ready h.count h.before h.ready),
+          subst (IsReady site) (sym k.ends) (publishes_ready k.count k.before k.ready),
         )
 
     -- an event that is answered alike
@@ -264,10 +256,17 @@ module _ (site : Parts) (limits : Limits) where
       pub tells : LastTold (step site limits w event) reply
       pub tells_too : LastTold (step site limits x event) reply
       pub alike : Alike (step site limits w event) (step site limits x event)
-      pub ready : IsReady (step site limits w event)
-      pub ready_too : IsReady (step site limits x event)
+      pub ready : IsReady site (step site limits w event)
+      pub ready_too : IsReady site (step site limits x event)
 
-    commit_same : (w x : World) (commit : Commit) → Alike w x → IsReady w → IsReady x → SameStep w x (Comes commit)
+    allowed_then : (w : World) (commit : Commit) → IsHistory site w.commits → IsHistory site (unless_refused w.commits commit (commit_refusal site limits w.commits commit))
+    allowed_then w commit allowed = by_refusal (commit_refusal site limits w.commits commit) refl
+      where
+        by_refusal : (why : Option Refusal) → commit_refusal site limits w.commits commit ≡ why → IsHistory site (unless_refused w.commits commit why)
+        by_refusal None is = history_push site w.commits commit (fits_unless_refused site limits w.commits commit is) allowed
+        by_refusal (Some why) is = allowed
+
+    commit_same : (w x : World) (commit : Commit) → Alike w x → IsReady site w → IsReady site x → SameStep w x (Comes commit)
     commit_same w x commit a r q =
         record {
           reply = commit_told w.commits (commit_refusal site limits w.commits commit);
@@ -280,11 +279,11 @@ module _ (site : Parts) (limits : Limits) where
             log = a.log;
             nodes = a.nodes;
           };
-          ready = record { idle = r.idle; slot = r.slot };
-          ready_too = record { idle = q.idle; slot = q.slot };
+          ready = record { idle = r.idle; slot = r.slot; allowed = allowed_then w commit r.allowed };
+          ready_too = record { idle = q.idle; slot = q.slot; allowed = allowed_then x commit q.allowed };
         }
 
-    node_same : (w x : World) (number capacity : ℕ) (mode : Mode) → Alike w x → IsReady w → IsReady x → SameStep w x (Node number capacity mode)
+    node_same : (w x : World) (number capacity : ℕ) (mode : Mode) → Alike w x → IsReady site w → IsReady site x → SameStep w x (Node number capacity mode)
     node_same w x number capacity mode a r q = by_node (fin.get w.nodes number) refl
       where
         by_node : (o : Option Cache) → fin.get w.nodes number ≡ o → SameStep w x (Node number capacity mode)
@@ -297,8 +296,8 @@ module _ (site : Parts) (limits : Limits) where
               tells = (w.replies, ap (λ u. u.replies) first);
               tells_too = (x.replies, ap (λ u. u.replies) second);
               alike = between first second (record { commits = a.commits; target = a.target; work = a.work; log = a.log; nodes = a.nodes });
-              ready = subst IsReady (sym first) (record { idle = r.idle; slot = r.slot });
-              ready_too = subst IsReady (sym second) (record { idle = q.idle; slot = q.slot });
+              ready = subst (IsReady site) (sym first) (record { idle = r.idle; slot = r.slot; allowed = r.allowed });
+              ready_too = subst (IsReady site) (sym second) (record { idle = q.idle; slot = q.slot; allowed = q.allowed });
             }
         by_node None is =
             let first : step site limits w (Node number capacity mode) ≡ told (NodeMade number) (with_node number (record { capacity = capacity; mode = mode; number = 0; entries = [] }) w) =
@@ -316,11 +315,11 @@ module _ (site : Parts) (limits : Limits) where
                 log = a.log;
                 nodes = ap (λ (m : fin.FinMap nat_cmp Cache). fin.insert m number (record { capacity = capacity; mode = mode; number = 0; entries = [] })) a.nodes;
               });
-              ready = subst IsReady (sym first) (record { idle = r.idle; slot = r.slot });
-              ready_too = subst IsReady (sym second) (record { idle = q.idle; slot = q.slot });
+              ready = subst (IsReady site) (sym first) (record { idle = r.idle; slot = r.slot; allowed = r.allowed });
+              ready_too = subst (IsReady site) (sym second) (record { idle = q.idle; slot = q.slot; allowed = q.allowed });
             }
 
-    request_same : (w x : World) (number pass : ℕ) (path : Path) → Alike w x → IsReady w → IsReady x → SameStep w x (Request number pass path false)
+    request_same : (w x : World) (number pass : ℕ) (path : Path) → Alike w x → IsReady site w → IsReady site x → SameStep w x (Request number pass path false)
     request_same w x number pass path a r q = by_node (fin.get w.nodes number) refl
       where
         by_node : (o : Option Cache) → fin.get w.nodes number ≡ o → SameStep w x (Request number pass path false)
@@ -333,8 +332,8 @@ module _ (site : Parts) (limits : Limits) where
               tells = (w.replies, ap (λ u. u.replies) first);
               tells_too = (x.replies, ap (λ u. u.replies) second);
               alike = between first second (record { commits = a.commits; target = a.target; work = a.work; log = a.log; nodes = a.nodes });
-              ready = subst IsReady (sym first) (record { idle = r.idle; slot = r.slot });
-              ready_too = subst IsReady (sym second) (record { idle = q.idle; slot = q.slot });
+              ready = subst (IsReady site) (sym first) (record { idle = r.idle; slot = r.slot; allowed = r.allowed });
+              ready_too = subst (IsReady site) (sym second) (record { idle = q.idle; slot = q.slot; allowed = q.allowed });
             }
         by_node (Some cache) is =
             let first : step site limits w (Request number pass path false) ≡ told (answered (answer cache w.log pass path false).reply) (with_node number (answer cache w.log pass path false).cache w) =
@@ -353,8 +352,8 @@ module _ (site : Parts) (limits : Limits) where
                 log = a.log;
                 nodes = ap (λ (m : fin.FinMap nat_cmp Cache). fin.insert m number (answer cache w.log pass path false).cache) a.nodes;
               });
-              ready = subst IsReady (sym first) (record { idle = r.idle; slot = r.slot });
-              ready_too = subst IsReady (sym second) (record { idle = q.idle; slot = q.slot });
+              ready = subst (IsReady site) (sym first) (record { idle = r.idle; slot = r.slot; allowed = r.allowed });
+              ready_too = subst (IsReady site) (sym second) (record { idle = q.idle; slot = q.slot; allowed = q.allowed });
             }
 
     event_same : (w x : World) (event : Event) (a b : List Event) (said heard : Word) → SameStep w x event → (a ≡ event ∷ []) × IsTold site limits w event said → (b ≡ event ∷ []) × IsTold site limits x event heard
@@ -365,12 +364,12 @@ module _ (site : Parts) (limits : Limits) where
         subst (λ (l : List Event). SameTurn w x l b said heard) (sym one.0) (subst (λ (l : List Event). SameTurn w x (event ∷ []) l said heard) (sym two.0)
         (record { texts = one.1.2 ∙ ap told_text (first ∙ sym second) ∙ sym two.1.2; alike = same.alike; ready = same.ready; ready_too = same.ready_too }))
 
-    nothing_same : (w x : World) (a b : List Event) (said heard text : Word) → Alike w x → IsReady w → IsReady x → (a ≡ []) × (said ≡ text) → (b ≡ []) × (heard ≡ text) → SameTurn w x a b said heard
+    nothing_same : (w x : World) (a b : List Event) (said heard text : Word) → Alike w x → IsReady site w → IsReady site x → (a ≡ []) × (said ≡ text) → (b ≡ []) × (heard ≡ text) → SameTurn w x a b said heard
     nothing_same w x a b said heard text alike r q one two =
         subst (λ (l : List Event). SameTurn w x l b said heard) (sym one.0) (subst (λ (l : List Event). SameTurn w x [] l said heard) (sym two.0)
         (record { texts = one.1 ∙ sym two.1; alike = alike; ready = r; ready_too = q }))
 
-    turn_same : (w x : World) (number : ℕ) (c : Command) (a b : List Event) (said heard : Word) → Alike w x → IsReady w → IsReady x
+    turn_same : (w x : World) (number : ℕ) (c : Command) (a b : List Event) (said heard : Word) → Alike w x → IsReady site w → IsReady site x
         → StandsFor site limits w number c a said → StandsFor site limits x number c b heard → SameTurn w x a b said heard
     turn_same w x number (command.Commit commit) a b said heard alike r q one two = event_same w x (Comes commit) a b said heard (commit_same w x commit alike r q) one two
     turn_same w x number command.Settle a b said heard alike r q one two =
@@ -387,13 +386,14 @@ module _ (site : Parts) (limits : Limits) where
         event_same w x (Node node capacity mode) a b said heard (node_same w x node capacity mode alike r q) one two
     turn_same w x number (command.Get node pass path) a b said heard alike r q one two =
         event_same w x (Request node pass path false) a b said heard (request_same w x node pass path alike r q) one two
+    turn_same w x number (command.BadFeed why) a b said heard alike r q one two = nothing_same w x a b said heard (bad_feed_text why) alike r q one two
     turn_same w x number command.Blank a b said heard alike r q one two = nothing_same w x a b said heard [] alike r q one two
     turn_same w x number command.NotBuilt a b said heard alike r q one two = nothing_same w x a b said heard (not_built_text number) alike r q one two
 
     behind : (before events : List Event) → run site limits (before ++ events) ≡ fold (step site limits) (run site limits before) events
     behind before events = fold-append (step site limits) first_world before events
 
-    plays_same : (cs : List Command) (before start : List Event) (number : ℕ) (last out heard : Word) → Alike (run site limits before) (run site limits start) → IsReady (run site limits before) → IsReady (run site limits start)
+    plays_same : (cs : List Command) (before start : List Event) (number : ℕ) (last out heard : Word) → Alike (run site limits before) (run site limits start) → IsReady site (run site limits before) → IsReady site (run site limits start)
         → MachinePlays site limits before number cs last out → MachinePlays site limits start number cs last heard → out ≡ heard
     plays_same [] before start number last out heard alike r q one two = one ∙ sym two
     plays_same (c ∷ cs) before start number last out heard alike r q one two =
@@ -401,30 +401,14 @@ module _ (site : Parts) (limits : Limits) where
         turn_same (run site limits before) (run site limits start) (number + 1) c one.0 two.0 one.1.0 two.1.0 alike r q one.1.1.1 two.1.1.1 in
         let more : one.1.1.0 ≡ two.1.1.0 =
         plays_same cs (before ++ one.0) (start ++ two.0) (number + 1) last one.1.1.0 two.1.1.0
-        (between (behind before one.0) (behind start two.0) t.alike) (subst IsReady (sym (behind before one.0)) t.ready) (subst IsReady (sym (behind start two.0)) t.ready_too) one.1.1.3 two.1.1.3 in
+        (between (behind before one.0) (behind start two.0) t.alike) (subst (IsReady site) (sym (behind before one.0)) t.ready) (subst (IsReady site) (sym (behind start two.0)) t.ready_too) one.1.1.3 two.1.1.3 in
         one.1.1.2 ∙ (λ i. t.texts i ++ more i) ∙ sym two.1.1.2
 
     -- each command is answered
-    settle_exists : (w : World) → IsReady w → (events : List Event) × ((counts : Counts) × Settles site limits w events counts)
-    settle_exists w r = elim (target_case w.target (length w.commits)) [
-      | inl new ↦
-          let goes : step site limits w Begin ≡ told (Begins (Nothing (length w.commits))) w = begins_nothing site limits w earlier r.idle r.slot new in
-          let p : (n : ℕ) × LastTold (fold (step site limits) (step site limits w Begin) (publishes n)) NothingChanged = publishing_ends (step site limits w Begin) in
-          (Begin ∷ publishes p.0, (_, at_once (length w.commits) p.0 (w.replies, ap (λ u. u.replies) goes) p.1))
-      | inr other ↦
-          let is = settle_reports site limits w earlier r.idle other r.slot in
-          let p : (n : ℕ) × LastTold (fold (step site limits) (fold (step site limits) w (settling (length (expanded (target_content site w.commits w.target) (content site w.commits))) is.0)) (publishes n)) NothingChanged =
-          publishing_ends (fold (step site limits) w (settling (length (expanded (target_content site w.commits w.target) (content site w.commits))) is.0)) in
-          let goes = fold-append (step site limits) w (settling (length (expanded (target_content site w.commits w.target) (content site w.commits))) is.0) (publishes p.0) in (
-            settling (length (expanded (target_content site w.commits w.target) (content site w.commits))) is.0 ++ publishes p.0,
-            (
-              _,
-              by_work (length (expanded (target_content site w.commits w.target) (content site w.commits))) is.0 p.0 _ (is.1.front, is.1.report) (subst (λ u. LastTold u NothingChanged) (sym goes) p.1),
-            ),
-          )
-    ]
+    settle_exists : (w : World) → IsReady site w → (events : List Event) × ((counts : Counts) × Settles site limits w events counts)
+    settle_exists w r = let e = settle_ends site limits w (earlier w.commits r.allowed) r.slot in (e.0, (e.1.0, e.1.1))
 
-    turn_exists : (w : World) (number : ℕ) (c : Command) → IsReady w → (events : List Event) × ((said : Word) × StandsFor site limits w number c events said)
+    turn_exists : (w : World) (number : ℕ) (c : Command) → IsReady site w → (events : List Event) × ((said : Word) × StandsFor site limits w number c events said)
     turn_exists w number (command.Commit commit) r =
         let same : SameStep w w (Comes commit) = commit_same w w commit (alike_itself w) r r in
         (Comes commit ∷ [], (told_text same.reply, (refl, (same.reply, same.tells, refl))))
@@ -437,27 +421,28 @@ module _ (site : Parts) (limits : Limits) where
     turn_exists w number (command.Get node pass path) r =
         let same : SameStep w w (Request node pass path false) = request_same w w node pass path (alike_itself w) r r in
         (Request node pass path false ∷ [], (told_text same.reply, (refl, (same.reply, same.tells, refl))))
+    turn_exists w number (command.BadFeed why) r = ([], (bad_feed_text why, (refl, refl)))
     turn_exists w number command.Blank r = ([], ([], (refl, refl)))
     turn_exists w number command.NotBuilt r = ([], (not_built_text number, (refl, refl)))
 
-    plays_from : (cs : List Command) (before : List Event) (number : ℕ) (last : Word) → IsReady (run site limits before) → (out : Word) × MachinePlays site limits before number cs last out
+    plays_from : (cs : List Command) (before : List Event) (number : ℕ) (last : Word) → IsReady site (run site limits before) → (out : Word) × MachinePlays site limits before number cs last out
     plays_from [] before number last r = (last, refl)
     plays_from (c ∷ cs) before number last r =
         let t : (events : List Event) × ((said : Word) × StandsFor site limits (run site limits before) (number + 1) c events said) = turn_exists (run site limits before) (number + 1) c r in
-        let next : IsReady (run site limits (before ++ t.0)) =
-        subst IsReady (sym (behind before t.0)) (turn_same (run site limits before) (run site limits before) (number + 1) c t.0 t.0 t.1.0 t.1.0 (alike_itself (run site limits before)) r r t.1.1 t.1.1).ready in
+        let next : IsReady site (run site limits (before ++ t.0)) =
+        subst (IsReady site) (sym (behind before t.0)) (turn_same (run site limits before) (run site limits before) (number + 1) c t.0 t.0 t.1.0 t.1.0 (alike_itself (run site limits before)) r r t.1.1 t.1.1).ready in
         let rest : (out : Word) × MachinePlays site limits (before ++ t.0) (number + 1) cs last out = plays_from cs (before ++ t.0) (number + 1) last next in
         (t.1.0 ++ rest.0, (t.0, (t.1.0, (rest.0, t.1.1, refl, rest.1))))
 
 pub starts_ready : StartsReady
-starts_ready = record { idle = refl; slot = fin.get-empty nat_cmp 0 }
+starts_ready site = record { idle = refl; slot = fin.get-empty nat_cmp 0; allowed = record { fits = λ k commit is. absurd (none-some commit is) } }
 
 pub plays_exist : PlaysExist
-plays_exist site limits number commands last earlier = plays_from site limits earlier commands [] number last starts_ready
+plays_exist site limits number commands last earlier = plays_from site limits earlier commands [] number last (starts_ready site)
 
 pub plays_are_one : PlaysAreOne
 plays_are_one site limits number commands last a b earlier one two =
-    plays_same site limits earlier commands [] [] number last a b (alike_itself first_world) starts_ready starts_ready one two
+    plays_same site limits earlier commands [] [] number last a b (alike_itself first_world) (starts_ready site) (starts_ready site) one two
 
 pub commands_leave_ready : CommandsLeaveReady
 commands_leave_ready site limits w number command events out earlier r stands =
@@ -486,7 +471,7 @@ pub settles_leave_nothing : SettlesLeaveNothing
 settles_leave_nothing site limits w events counts earlier r settles =
     let h : Outcome site limits w events counts = settle_comes site limits earlier w events counts r settles in
     let keeps = publishes_keep site limits h.count h.before in
-    let ready : IsReady (fold (step site limits) h.before (publishes h.count)) = publishes_ready site limits h.count h.before h.ready in
+    let ready : IsReady site (fold (step site limits) h.before (publishes h.count)) = publishes_ready site limits h.count h.before h.ready in
     let made : (fold (step site limits) h.before (publishes h.count)).target ≡ Some (length (fold (step site limits) h.before (publishes h.count)).commits) =
     keeps.1 ∙ h.target ∙ ap (λ (cs : List Commit). Some (length cs)) (sym h.commits ∙ sym keeps.0) in
     let done : IsDone site limits (fold (step site limits) h.before (publishes h.count)) = all_done site limits h.count h.before h.unpublished h.last in

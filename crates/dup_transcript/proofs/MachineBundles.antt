@@ -1,5 +1,5 @@
 -- The bundles that the machine publishes over a site of the first form: the pages of a settle, one after another.
-use Rattle.std.proofs.Common.{◌≡◌, ℕ, suc, ◌+◌, Bool, true, false, not, cond, refl, sym, ap, subst, ◌∙◌, List, [], ◌∷◌, ◌++◌, map, length, drop, take, append_assoc, arith}
+use Rattle.std.proofs.Common.{◌≡◌, ℕ, zero, suc, ◌+◌, ◌<◌, Bool, true, false, not, cond, refl, sym, ap, subst, ◌∙◌, List, [], ◌∷◌, ◌++◌, map, length, drop, take, append_assoc, arith}
 use Rattle.std.specs.Prelude.{Option, Some, None, is_some, if◌then◌else◌, bytes_eq}
 use Rattle.std.specs.List.{filter, fold, AllByRecursion}
 use Rattle.std.specs.Ordering.{eq_by_cmp, nat_cmp}
@@ -14,21 +14,22 @@ use Rattle.dup_template.specs.declared.site.Parts.{Parts}
 use Rattle.dup_model.specs.Bundles.{bundle, bundle_from}
 use Rattle.dup_model.specs.Caches.{Cache}
 use Rattle.dup_model.specs.Commits.{Commit}
-use Rattle.dup_model.specs.Editions.{Edition, Page, bundle_of, edition, history, looks, target_looks}
+use Rattle.dup_model.specs.Editions.{Bundle, Edition, Page, bundle_of, edition, history, looks, target_looks}
 use Rattle.dup_model.specs.Journal.{Limits}
-use Rattle.dup_transcript.specs.MachinePlays.{LastTold}
+use Rattle.dup_machine.specs.Until.{LastTold}
+use Rattle.dup_machine.proofs.LastReply.{told_once}
 use Rattle.dup_model.specs.Needs.{needs}
 use Rattle.dup_model.specs.Pages.{Target}
 use Rattle.dup_machine.specs.Press.{published_by, target_of}
 use Rattle.dup_machine.specs.Presses.{version_of}
 use Rattle.dup_machine.specs.Run.{step}
 use Rattle.dup_transcript.specs.Sessions.{Published, shows, with_page, with_pages}
-use Rattle.dup_machine.specs.Settle.{publishes}
-use Rattle.dup_machine.specs.World.{World}
+use Rattle.dup_machine.specs.Settle.{AllPublished, publishing}
+use Rattle.dup_machine.specs.World.{Told, World}
 use Rattle.dup_machine.specs.World.Event.{Publish}
 use Rattle.dup_machine.specs.World.Told.{NothingChanged}
 use Rattle.dup_model.proofs.Lists.{length_snoc}
-use Rattle.dup_machine.proofs.Publishing.{look_itself}
+use Rattle.dup_model.proofs.SameLooks.{look_itself}
 use Rattle.dup_model.proofs.Push.{edition_snoc}
 use Rattle.dup_model.proofs.Reached.{tie_itself, tie_same}
 use Rattle.dup_transcript.proofs.SinglePages.{ArePlain, AreSorted, IsPlain, changed_are, due, first_alone, no_needs, one_page}
@@ -198,12 +199,27 @@ module _ (site : Parts) (limits : Limits) (commits : List Commit) (v : ℕ) (nod
     pub at : At p w
     pub last : LastTold w NothingChanged
 
+  -- from this state so many bundles are published, and nothing is left
+  abbrev pub Publishes : World → Published → Type 0
+  Publishes w p = (n : ℕ) × AllPublished site limits w n × Ends p (fold (step site limits) w (publishing n))
+
+  -- where a bundle goes out first, the first publish isn't the last
+  one_before : (w : World) (paths : List Path) → step site limits w Publish ≡ published_by t v (Some paths) w → (n : ℕ) → AllPublished site limits (step site limits w Publish) n
+      → (i : ℕ) → i < suc n → LastTold (fold (step site limits) w (publishing i)) NothingChanged → ⊥
+  one_before w paths goes n all zero less tells =
+      let b : Bundle = bundle_of t v (drop (length (history w.log)) (take v w.commits)) paths in
+      let e : Told.Published (length w.log + 1) v (length b.puts) (length b.drops) ≡ NothingChanged =
+      told_once (step site limits w Publish) (Told.Published (length w.log + 1) v (length b.puts) (length b.drops)) NothingChanged (w.replies, ap (λ (u : World). u.replies) goes) tells in
+      absurd (cc)
+  one_before w paths goes n all (suc i) less tells = all.1 i (omega (arith, less)) tells
+
   publishes_from : (front rest : List (Path × Look)) → l ≡ front ++ rest → AreFound l rest → (w : World) (p : Published) → At p w → Fits p.edition → AreShown p.edition front
-      → (n : ℕ) × Ends (with_pages v rest p) (fold (step site limits) w (publishes n))
+      → Publishes w (with_pages v rest p)
   publishes_from front [] is found w p a f shown =
       let none : due p.edition l ≡ [] = ap (due p.edition) is ∙ due_behind p.edition front [] shown in
       let goes : step site limits w Publish ≡ published_by t v None w = publish_goes w p a None (next_bundle p.edition f [] none) in (
-        1,
+        0,
+        ((w.replies, ap (λ (u : World). u.replies) goes), λ i less. absurd (omega (arith, less))),
         subst (Ends p) (sym goes) (record {
           at = record { commits = a.commits; target = a.target; idle = a.idle; nodes = a.nodes; slot = a.slot; number = a.number; edition = a.edition };
           last = (w.replies, refl);
@@ -215,12 +231,12 @@ module _ (site : Parts) (limits : Limits) (commits : List Commit) (v : ℕ) (nod
       apart : IsDistinct (front ++ at ∷ rest)
       apart = subst IsDistinct is distinct
 
-      by_test : ((w : World) (p : Published) → At p w → Fits p.edition → AreShown p.edition (front ++ at ∷ []) → (n : ℕ) × Ends (with_pages v rest p) (fold (step site limits) w (publishes n)))
-          → (b : Bool) → shows (fin.get p.edition at.0) at.1 ≡ b → (n : ℕ) × Ends (with_pages v rest (with_page v p at)) (fold (step site limits) w (publishes n))
+      by_test : ((w : World) (p : Published) → At p w → Fits p.edition → AreShown p.edition (front ++ at ∷ []) → Publishes w (with_pages v rest p))
+          → (b : Bool) → shows (fin.get p.edition at.0) at.1 ≡ b → Publishes w (with_pages v rest (with_page v p at))
       by_test onward true same =
           let stays : with_page v p at ≡ p =
           ap (λ (b : Bool). if b then p else (record { number = p.number + 1; edition = fin.insert p.edition at.0 (record { path = at.0; version = v; look = at.1 }) })) same in
-          subst (λ (q : Published). (n : ℕ) × Ends (with_pages v rest q) (fold (step site limits) w (publishes n))) (sym stays) (onward w p a f (shown_snoc p.edition front at shown same))
+          subst (λ (q : Published). Publishes w (with_pages v rest q)) (sym stays) (onward w p a f (shown_snoc p.edition front at shown same))
       by_test onward false other =
           let first : due p.edition l ≡ at ∷ due p.edition rest =
           ap (due p.edition) is ∙ due_behind p.edition front (at ∷ rest) shown ∙ ap (λ (b : Bool). if not b then at ∷ due p.edition rest else due p.edition rest) other in
@@ -236,9 +252,9 @@ module _ (site : Parts) (limits : Limits) (commits : List Commit) (v : ℕ) (nod
           let seen : AreShown (with_page v p at).edition (front ++ at ∷ []) =
           subst (λ (e : Edition). AreShown e (front ++ at ∷ [])) (sym more)
           (shown_snoc (fin.insert p.edition at.0 (record { path = at.0; version = v; look = at.1 })) front at (still_shown p.edition front at rest (record { path = at.0; version = v; look = at.1 }) apart shown) (now_shown p.edition at v)) in
-          let rest_of : (n : ℕ) × Ends (with_pages v rest (with_page v p at)) (fold (step site limits) (step site limits w Publish) (publishes n)) =
+          let rest_of : Publishes (step site limits w Publish) (with_pages v rest (with_page v p at)) =
           onward (step site limits w Publish) (with_page v p at) there (fits_more p at f found.0) seen in
-          (suc rest_of.0, rest_of.1)
+          (suc rest_of.0, (rest_of.1.0, one_before w (at.0 ∷ []) goes rest_of.0 rest_of.1), rest_of.2)
 
-  pub publishes_all : (w : World) (p : Published) → At p w → Fits p.edition → (n : ℕ) × Ends (with_pages v l p) (fold (step site limits) w (publishes n))
+  pub publishes_all : (w : World) (p : Published) → At p w → Fits p.edition → Publishes w (with_pages v l p)
   publishes_all w p a f = publishes_from [] l refl (all_found l distinct) w p a f tt

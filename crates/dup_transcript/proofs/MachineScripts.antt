@@ -19,13 +19,14 @@ use Rattle.dup_model.specs.Editions.{Bundle, edition, looks}
 use Rattle.dup_transcript.specs.FirstForm.{is_first_form}
 use Rattle.dup_model.specs.Journal.{Limits, refused_behind, commit_bytes, journal_bytes, journal_full, unless_refused, usual_limits}
 use Rattle.dup_transcript.specs.MachinePlays.{MachinePlays, command_bytes, limits_for}
-use Rattle.dup_transcript.specs.MachinePlays.Settles.{at_once, by_work}
+use Rattle.dup_machine.specs.Settle.Settles.{at_once, by_work}
 use Rattle.dup_model.specs.Pages.{live}
 use Rattle.dup_machine.proofs.WorldSteps.{begun_next}
 use Rattle.dup_machine.specs.Press.{begun, opened}
 use Rattle.dup_machine.specs.Run.{run, step}
-use Rattle.dup_transcript.specs.Sessions.{IsPutting, PlaysCommands, SessionsAreTheMachines, Session, after_command, first_session, has_node, play_answer, settle_text, settled, settled_edition}
-use Rattle.dup_machine.specs.Settle.{counts_of, publishes, settling}
+use Rattle.dup_transcript.specs.Commands.{IsPutting}
+use Rattle.dup_transcript.specs.Sessions.{PlaysCommands, SessionsAreTheMachines, Session, after_command, first_session, has_node, play_answer, settle_text, settled, settled_edition}
+use Rattle.dup_machine.specs.Settle.{AllPublished, counts_of, publishing, settling}
 use Rattle.dup_transcript.specs.Texts.{settled_text}
 use Rattle.dup_model.specs.Touched.{expanded}
 use Rattle.dup_model.specs.Versions.{content, target_content, version}
@@ -36,11 +37,14 @@ use Rattle.dup_machine.specs.World.Event.{Begin}
 use Rattle.dup_machine.specs.World.Told.{Begins}
 use Rattle.dup_transcript.specs.declared.command.Command.TheVariants as command
 use Rattle.dup_transcript.proofs.Reports.{target_case}
-use Rattle.dup_machine.proofs.Settling.{nothing_is_done, settle_reports}
+use Rattle.dup_machine.proofs.NothingDone.{nothing_is_done}
+use Rattle.dup_machine.proofs.Settling.{settle_reports}
 use Rattle.dup_transcript.proofs.MachineAnswers.{plays_are_one}
 use Rattle.dup_transcript.proofs.MachineBundles.{IsAt}
 use Rattle.dup_transcript.proofs.MachineSteps.{Follows, Turn, follows_settled, publish_all, session_at, turn_commit, turn_get, turn_node}
-use Rattle.dup_transcript.proofs.RowPageLemmas.{embeds_earlier}
+use Rattle.dup_transcript.proofs.RowPageLemmas.{rows_embed_earlier}
+use Rattle.dup_model.specs.Tables.{AreOfRows}
+use Rattle.dup_model.proofs.GoodVersions.{good_histories}
 use Rattle.dup_transcript.proofs.SinglePages.{IsPlain}
 use Rattle.dup_transcript.proofs.SettledPages.{covers_first}
 use Rattle.dup_transcript.proofs.SettledPages.{covers_first}
@@ -82,28 +86,28 @@ module _ (site : Parts) (limits : Limits) (form : is_first_form site ≡ true) w
 
   turn_work : (s : Session) (w : World) (number : ℕ) → Follows site limits form s w → (w.target ≡ Some (length w.commits) → ⊥) → Turns s w number command.Settle
   turn_work s w number f other =
-      let r = settle_reports site limits w (embeds_earlier site form) f.at.idle other f.at.slot in
+      let r = settle_reports site limits w (rows_embed_earlier site form w.commits (subst AreOfRows (sym f.at.commits) f.covers.of_rows)) f.at.idle other f.at.slot in
       let a : IsAt s.commits (Some (length s.commits)) w.nodes (session_at site limits form s) (worked w r.0) = record {
-        commits = r.1.commits ∙ f.at.commits;
-        target = r.1.target ∙ ap (λ (cs : List Commit). Some (length cs)) f.at.commits;
-        idle = r.1.idle;
-        nodes = r.1.nodes;
-        slot = r.1.slot;
-        number = ap (λ (log : List Bundle). length log) r.1.log ∙ f.at.number;
-        edition = ap edition r.1.log ∙ f.at.edition;
+        commits = r.2.commits ∙ f.at.commits;
+        target = r.2.target ∙ ap (λ (cs : List Commit). Some (length cs)) f.at.commits;
+        idle = r.2.idle;
+        nodes = r.2.nodes;
+        slot = r.2.slot;
+        number = ap (λ (log : List Bundle). length log) r.2.log ∙ f.at.number;
+        edition = ap edition r.2.log ∙ f.at.edition;
       } in
       let p = publish_all site limits form s w (worked w r.0) a f.covers f.plain in
-      let goes : fold (step site limits) w (settling (to_expand w) r.0 ++ publishes p.0)
-      ≡ fold (step site limits) (worked w r.0) (publishes p.0) =
-      fold-append (step site limits) w (settling (to_expand w) r.0) (publishes p.0) in
+      let goes : fold (step site limits) w (settling (to_expand w) r.0 ++ publishing p.0)
+      ≡ fold (step site limits) (worked w r.0) (publishing p.0) =
+      fold-append (step site limits) w (settling (to_expand w) r.0) (publishing p.0) in
       record {
-        events = settling (to_expand w) r.0 ++ publishes p.0;
+        events = settling (to_expand w) r.0 ++ publishing p.0;
         stands = (
           counts_at w,
-          by_work (to_expand w) r.0 p.0 (counts_at w) (r.1.front, r.1.report) (p.1.last.0, ap (λ (u : World). u.replies) goes ∙ p.1.last.1),
-          same_text s w (fold (step site limits) w (settling (to_expand w) r.0 ++ publishes p.0)) (counts_at w) f (ap (λ (u : World). length u.log) goes ∙ p.1.at.number) (same_counts s w f),
+          by_work (to_expand w) r.0 p.0 (counts_at w) r.1 r.2.report p.1,
+          same_text s w (fold (step site limits) w (settling (to_expand w) r.0 ++ publishing p.0)) (counts_at w) f (ap (λ (u : World). length u.log) goes ∙ p.2.at.number) (same_counts s w f),
         );
-        follows = subst (Follows site limits form (settled site s)) (sym goes) (follows_settled site limits form s w (fold (step site limits) (worked w r.0) (publishes p.0)) f p.1.at);
+        follows = subst (Follows site limits form (settled site s)) (sym goes) (follows_settled site limits form s w (fold (step site limits) (worked w r.0) (publishing p.0)) f p.2.at);
       }
 
   turn_at_once : (s : Session) (w : World) (number : ℕ) → Follows site limits form s w → w.target ≡ Some (length w.commits) → Turns s w number command.Settle
@@ -122,19 +126,19 @@ module _ (site : Parts) (limits : Limits) (form : is_first_form site ≡ true) w
         edition = f.at.edition;
       } in
       let p = publish_all site limits form s w (told (Begins (Nothing (length w.commits))) w) a f.covers f.plain in
-      let on : fold (step site limits) w (Begin ∷ publishes p.0) ≡ fold (step site limits) (told (Begins (Nothing (length w.commits))) w) (publishes p.0) = ap (λ (u : World). fold (step site limits) u (publishes p.0)) goes in
+      let on : fold (step site limits) w (Begin ∷ publishing p.0) ≡ fold (step site limits) (told (Begins (Nothing (length w.commits))) w) (publishing p.0) = ap (λ (u : World). fold (step site limits) u (publishing p.0)) goes in
       let none : counts_at w ≡ record { version = length w.commits; expanded = 0; joined = 0; kept = length (live (content site w.commits)) } =
       ap (λ (t : Option ℕ). counts_of (target_content site w.commits t) (content site w.commits) (length w.commits)) last
       ∙ ap (λ (cs : List Commit). counts_of (Some (content site cs)) (content site w.commits) (length w.commits)) (take-length w.commits)
       ∙ nothing_is_done (content site w.commits) (length w.commits) in
       record {
-        events = Begin ∷ publishes p.0;
+        events = Begin ∷ publishing p.0;
         stands = (
           record { version = length w.commits; expanded = 0; joined = 0; kept = length (live (content site w.commits)) },
-          at_once (length w.commits) p.0 (w.replies, ap (λ (u : World). u.replies) goes) (p.1.last.0, ap (λ (u : World). u.replies) on ∙ p.1.last.1),
-          same_text s w (fold (step site limits) w (Begin ∷ publishes p.0)) _ f (ap (λ (u : World). length u.log) on ∙ p.1.at.number) (same_counts s w f ∙ none),
+          at_once (length w.commits) p.0 (w.replies, ap (λ (u : World). u.replies) goes) (subst (λ (u : World). AllPublished site limits u p.0) (sym goes) p.1),
+          same_text s w (fold (step site limits) w (Begin ∷ publishing p.0)) _ f (ap (λ (u : World). length u.log) on ∙ p.2.at.number) (same_counts s w f ∙ none),
         );
-        follows = subst (Follows site limits form (settled site s)) (sym on) (follows_settled site limits form s w (fold (step site limits) (told (Begins (Nothing (length w.commits))) w) (publishes p.0)) f p.1.at);
+        follows = subst (Follows site limits form (settled site s)) (sym on) (follows_settled site limits form s w (fold (step site limits) (told (Begins (Nothing (length w.commits))) w) (publishing p.0)) f p.2.at);
       }
 
   turn_settle : (s : Session) (w : World) (number : ℕ) → Follows site limits form s w → Turns s w number command.Settle
@@ -180,6 +184,7 @@ module _ (site : Parts) (limits : Limits) (form : is_first_form site ≡ true) w
       still true = room_behind s.commits (command.Node node capacity mode) rest room
       still false = room_behind s.commits (command.Node node capacity mode) rest room
   turn s w number (command.Get node pass path) rest is rows room f = (turn_get site limits form s w number node pass path f, room_behind s.commits (command.Get node pass path) rest room)
+  turn s w number (command.BadFeed why) rest is rows room f = (record { events = []; stands = (refl, refl); follows = f }, room_behind s.commits (command.BadFeed why) rest room)
   turn s w number command.Blank rest is rows room f = (record { events = []; stands = (refl, refl); follows = f }, room_behind s.commits command.Blank rest room)
   turn s w number command.NotBuilt rest is rows room f = (record { events = []; stands = (refl, refl); follows = f }, room_behind s.commits command.NotBuilt rest room)
 
@@ -205,7 +210,7 @@ module _ (site : Parts) (limits : Limits) (form : is_first_form site ≡ true) w
       no_looks q = ap (option_map (λ page. page.look)) (fin.get-empty text_cmp q)
 
 pub sessions_are_the_machines : SessionsAreTheMachines
-sessions_are_the_machines site number commands last out form put = (to out, back)
+sessions_are_the_machines site number commands last out form good put = (to out, back)
   where
     room : Room site (limits_for commands) form [] commands
     room = record { count = omega arith; bytes = omega arith }
@@ -217,4 +222,4 @@ sessions_are_the_machines site number commands last out form put = (to out, back
     back replied =
         let own : (out : Word) × PlaysCommands site first_session number commands last out = answered_by site first_session number commands last in
         subst (PlaysCommands site first_session number commands last)
-        (plays_are_one site (limits_for commands) number commands last own.0 out (embeds_earlier site form) (to own.0 own.1) replied) own.1
+        (plays_are_one site (limits_for commands) number commands last own.0 out (good_histories site good) (to own.0 own.1) replied) own.1

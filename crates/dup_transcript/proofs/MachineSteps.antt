@@ -32,16 +32,18 @@ use Rattle.dup_model.specs.Pages.{target}
 use Rattle.dup_machine.specs.Press.{committed, target_of}
 use Rattle.dup_machine.specs.Presses.{commit_told}
 use Rattle.dup_machine.specs.Run.{step}
-use Rattle.dup_transcript.specs.Sessions.{IsPutting, Published, Session, after_command, get_text, has_node, page_text, play_answer, settled, settled_edition, with_pages}
+use Rattle.dup_transcript.specs.Commands.{IsPutting}
+use Rattle.dup_transcript.specs.Sessions.{Published, Session, after_command, get_text, has_node, page_text, play_answer, settled, settled_edition, with_pages}
 use Rattle.dup_model.specs.Pages.{page_looks}
 use Rattle.dup_model.specs.Show.{show}
-use Rattle.dup_machine.specs.Settle.{publishes}
+use Rattle.dup_machine.specs.Settle.{AllPublished, publishing}
 use Rattle.dup_transcript.specs.Texts.{told_text}
 use Rattle.dup_model.specs.Versions.{content}
 use Rattle.dup_machine.specs.World.{Event, Told, World, answered, told}
 use Rattle.dup_machine.specs.World.Event.{Comes, Node, Request}
 use Rattle.dup_machine.specs.World.Told.{Ahead, NodeMade, NodeTaken, NoNode}
 use Rattle.dup_transcript.specs.declared.command.Command.TheVariants as command
+use Rattle.dup_model.specs.Tables.{AreOfRows}
 use Rattle.dup_model.proofs.Histories.{content_of}
 use Rattle.dup_model.proofs.Reached.{tie_same}
 use Rattle.dup_model.proofs.Tables.{versions_rise}
@@ -269,7 +271,7 @@ module _ (site : Parts) (limits : Limits) (form : is_first_form site ≡ true) w
                 (sym (ap (λ (b : Bool). if b then s else record s { nodes = s.nodes ++ node ∷ [] }) known))
                 (subst (Follows (record s { nodes = s.nodes ++ node ∷ [] })) (sym goes) (record {
                   at = record { commits = f.at.commits; target = f.at.target; idle = f.at.idle; nodes = refl; slot = f.at.slot; number = f.at.number; edition = f.at.edition };
-                  covers = f.covers;
+                  covers = record { of_rows = f.covers.of_rows; paths = f.covers.paths };
                   plain = f.plain;
                   has = λ n. has_new s w node n (new_cache capacity mode) f;
                   empty = empty_more s w node (new_cache capacity mode) f refl;
@@ -331,31 +333,31 @@ module _ (site : Parts) (limits : Limits) (form : is_first_form site ≡ true) w
     abbrev pub rows_pages : List (Path × Look)
     rows_pages = pages_from site last (table last 0)
 
-    pub all_pages : page_looks last ≡ rows_pages
-    all_pages = (row_pages site last form (content_of site s.commits) (versions_rise site s.commits)).pages
+    pub all_pages : AreOfRows s.commits → page_looks last ≡ rows_pages
+    all_pages of = (row_pages site last form (content_of site s.commits of) (versions_rise site s.commits)).pages
 
     pub rising : IsRising (table last 0)
     rising = rising_table last.tables (versions_rise site s.commits)
 
-    pub last_pages : (w : World) → w.commits ≡ s.commits → target_of site w (Some of_last) ≡ fin.from_entries rows_pages
-    last_pages w same =
+    pub last_pages : AreOfRows s.commits → (w : World) → w.commits ≡ s.commits → target_of site w (Some of_last) ≡ fin.from_entries rows_pages
+    last_pages of w same =
         ap (λ (cs : List Commit). target (content site (take (length s.commits) cs))) same
         ∙ ap (λ (cs : List Commit). target (content site cs)) (take-length s.commits)
-        ∙ ap (λ (l : List (Path × Look)). fin.from_entries l) all_pages
+        ∙ ap (λ (l : List (Path × Look)). fin.from_entries l) (all_pages of)
 
     -- from a state whose target is of the last version
-    pub publish_all : (w v : World) → IsAt s.commits (Some of_last) w.nodes (session_at s) v → Covers site form s → ArePlain site (looks s.edition)
-        → (n : ℕ) × Ends site limits s.commits of_last w.nodes rows_pages (rows_sorted site last (table last 0) rising) (distinct_rows site last (table last 0) rising) (plain_rows site last (table last 0)) last_pages
-        (settled_edition site s) (fold (step site limits) v (publishes n))
+    pub publish_all : (w v : World) → IsAt s.commits (Some of_last) w.nodes (session_at s) v → (covers : Covers site form s) → ArePlain site (looks s.edition)
+        → (n : ℕ) × AllPublished site limits v n × Ends site limits s.commits of_last w.nodes rows_pages (rows_sorted site last (table last 0) rising) (distinct_rows site last (table last 0) rising) (plain_rows site last (table last 0)) (last_pages covers.of_rows)
+        (settled_edition site s) (fold (step site limits) v (publishing n))
     publish_all w v a covers plain =
-        subst (λ (l : List (Path × Look)). (n : ℕ) × Ends site limits s.commits of_last w.nodes rows_pages (rows_sorted site last (table last 0) rising) (distinct_rows site last (table last 0) rising) (plain_rows site last (table last 0)) last_pages
-        (with_pages of_last l (session_at s)) (fold (step site limits) v (publishes n))) (sym all_pages)
-        (publishes_all site limits s.commits of_last w.nodes rows_pages (rows_sorted site last (table last 0) rising) (distinct_rows site last (table last 0) rising) (plain_rows site last (table last 0)) last_pages
-        v (session_at s) a (record { plain = plain; covers = λ q there. found_rows site last q (table last 0) ∙ covers q there }))
+        subst (λ (l : List (Path × Look)). (n : ℕ) × AllPublished site limits v n × Ends site limits s.commits of_last w.nodes rows_pages (rows_sorted site last (table last 0) rising) (distinct_rows site last (table last 0) rising) (plain_rows site last (table last 0)) (last_pages covers.of_rows)
+        (with_pages of_last l (session_at s)) (fold (step site limits) v (publishing n))) (sym (all_pages covers.of_rows))
+        (publishes_all site limits s.commits of_last w.nodes rows_pages (rows_sorted site last (table last 0) rising) (distinct_rows site last (table last 0) rising) (plain_rows site last (table last 0)) (last_pages covers.of_rows)
+        v (session_at s) a (record { plain = plain; covers = λ q there. found_rows site last q (table last 0) ∙ covers.paths q there }))
 
-    plain_after : ArePlain site (looks s.edition) → ArePlain site (looks (settled site s).edition)
-    plain_after plain q =
-        subst (IsPlain site q) (sym (settled_looks site form s q)) (by_found (fin.find text_cmp q rows_pages) (plain_found site last (table last 0) q))
+    plain_after : AreOfRows s.commits → ArePlain site (looks s.edition) → ArePlain site (looks (settled site s).edition)
+    plain_after of plain q =
+        subst (IsPlain site q) (sym (settled_looks site form s of q)) (by_found (fin.find text_cmp q rows_pages) (plain_found site last (table last 0) q))
       where
         by_found : (o : Option Look) → IsPlain site q o → IsPlain site q (option_or o (looks s.edition q))
         by_found None h = plain q
@@ -365,7 +367,7 @@ module _ (site : Parts) (limits : Limits) (form : is_first_form site ≡ true) w
     follows_settled w v f a = record {
       at = record { commits = a.commits; target = a.target; idle = a.idle; nodes = refl; slot = a.slot; number = a.number; edition = a.edition };
       covers = covers_one site form s command.Settle tt f.covers;
-      plain = plain_after f.plain;
+      plain = plain_after f.covers.of_rows f.plain;
       has = λ n. ap (λ (m : fin.FinMap nat_cmp Cache). is_some (fin.get m n)) a.nodes ∙ f.has n;
       empty = λ n cache is. f.empty n cache (ap (λ (m : fin.FinMap nat_cmp Cache). fin.get m n) (sym a.nodes) ∙ is);
     }

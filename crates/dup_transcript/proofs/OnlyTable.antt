@@ -15,7 +15,7 @@ use Rattle.dup_model.specs.declared.mode.Mode.{Mode}
 use Rattle.dup_model.specs.declared.mode.Mode.TheVariants.{Invalidate, Update}
 use Rattle.dup_transcript.specs.declared.command.Command.TheVariants as command
 use Rattle.dup_transcript.specs.CommandTable.{mode_word}
-use Rattle.dup_transcript.specs.Commands.{Command, by_message, by_start, by_words, get_command, if_more, is_capacity, is_node, message_of, mode_of, node_command, one_word, four_words}
+use Rattle.dup_transcript.specs.Commands.{Command, Feed, by_message, by_start, by_words, get_command, if_more, is_capacity, is_node, message_of, mode_of, node_command, of_message, one_word, four_words}
 use Rattle.dup_transcript.specs.Numbers.{number_of}
 use Rattle.dup_transcript.specs.OnlyTable.{IsInTable, OnlyTheTable}
 use Rattle.dup_transcript.specs.OnlyTable.IsInTable.{blank, comment, commit, settle, node, get}
@@ -55,7 +55,7 @@ behind_is front text rest is = by_test (same (take (length front) text) front) r
         ∙ (λ i. same_is (take (length front) text) front one i ++ same_Some (drop (length front) text) rest is i)
     by_test false one is = absurd (none-some rest is)
 
-module _ (feed : Word → Command) (text : Word) where
+module _ (feed : Feed) (text : Word) where
   abbrev Either : Command → Type 0
   Either c = IsInTable feed text c ⊎ (c ≡ command.NotBuilt)
 
@@ -117,13 +117,13 @@ module _ (feed : Word → Command) (text : Word) where
   message_case line is None none = words_case (line_words line) (sym (words_trimmed text) ∙ ap line_words is)
   message_case line is (Some message) some = by_rest (behind (codes "commit ") line) refl some
     where
-      by_spaces : (rest : Word) → behind (codes "commit ") line ≡ Some rest → (t : Bool) → list_all is_space rest ≡ t → (if t then None else Some rest) ≡ Some message → Either (feed message)
+      by_spaces : (rest : Word) → behind (codes "commit ") line ≡ Some rest → (t : Bool) → list_all is_space rest ≡ t → (if t then None else Some rest) ≡ Some message → Either (of_message (feed message))
       by_spaces rest at true all some = absurd (none-some message some)
       by_spaces rest at false not_all some =
           let one : rest ≡ message = same_Some rest message some in
           inl (commit message (is ∙ behind_is (codes "commit ") line rest at ∙ ap (λ m. codes "commit " ++ m) one) (ap (λ m. list_all is_space m) (sym one) ∙ not_all))
 
-      by_rest : (o : Option Word) → behind (codes "commit ") line ≡ o → if_more o ≡ Some message → Either (feed message)
+      by_rest : (o : Option Word) → behind (codes "commit ") line ≡ o → if_more o ≡ Some message → Either (of_message (feed message))
       by_rest None at some = absurd (none-some message some)
       by_rest (Some rest) at some = by_spaces rest at (list_all is_space rest) refl some
 

@@ -8,6 +8,7 @@ use Rattle.dup_transcript.specs.PressRows.{events_site, PressRow}
 use Rattle.dup_model.proofs.Folds.{fold-Say, fold-Field}
 use Rattle.dup_model.proofs.SiteRules.{rule-Say, rule-Field}
 use Rattle.dup_model.proofs.Equations.{marks-Say, marks-Field}
+use Rattle.dup_transcript.proofs.Rows.{body_itself}
 
 pub events_good : IsGood events_site
 events_good = simp (fold-Say, fold-Field, rule-Say, rule-Field) refl
@@ -17,7 +18,7 @@ press_row slots = record {
   same = refl;
   moved = refl;
   stale = simp (marks-Say, marks-Field) refl;
-  kept = simp (marks-Say, marks-Field) refl;
+  kept = simp (marks-Say, marks-Field, body_itself) refl;
   unasked = simp (marks-Say, marks-Field) refl;
   waiting = refl;
   join_waiting = refl;

@@ -1,8 +1,10 @@
 -- What a settle counts, in a site of the first form.
 use Rattle.std.proofs.Common.{◌≡◌, suc, ◌+◌, Bool, true, false, not, ◌&&◌, ◌||◌, refl, sym, ap, ◌∙◌, subst, List, [], ◌∷◌, map, length, arith}
 use Rattle.std.specs.Prelude.{Some, None, is_some, if◌then◌else◌}
-use Rattle.std.specs.List.{flat_map, filter, find, list_any}
-use Rattle.std.specs.Option.{option_map}
+use Rattle.std.specs.List.{flat_map, filter, find, list_any, slice_get}
+use Rattle.std.specs.Option.{option_map, unwrap_or}
+use Rattle.dup_names.specs.declared.object.Item.TheVariants as item
+use Rattle.dup_template.specs.SameStatement.{body-Decides}
 use Rattle.std.proofs.lemmas.Grind.{flat_map-append}
 use Rattle.dup_names.specs.Order.{item_cmp}
 use Rattle.dup_names.specs.Words.{Word, same}
@@ -32,11 +34,15 @@ body_reads a b key (x ∷ xs) =
     ∙ ap (λ (v : Bool). is_touched_at a b key x || v) (body_reads a b key xs)
 
 -- a row's object is touched where a statement of its template reads an item that differs
-row_touched : (a b : Content) (key : Word) → here_at a (row_object key) ≡ row_at 0 (Some key) → touched a b (row_object key) ≡ list_any (is_touched_at a b key) (body_at a 0)
-row_touched a b key here =
+row_touched : (a b : Content) (key : Word) → a.bodies ≡ b.bodies → here_at a (row_object key) ≡ row_at 0 (Some key) → touched a b (row_object key) ≡ list_any (is_touched_at a b key) (body_at a 0)
+row_touched a b key same here =
     any_in_order item_cmp (differs a b) (λ x y tie. ap (differs a b) (item_tied x y tie)) (flat_map read_by (marks a (row_object key)))
+    ∙ ap (λ (v : Bool). v || list_any (differs a b) (flat_map read_by (body_marks a (body_at a 0) (here_at a (row_object key))))) still
     ∙ ap (λ h. list_any (differs a b) (flat_map read_by (body_marks a (body_at a 0) h))) here
     ∙ body_reads a b key (body_at a 0)
+  where
+    still : differs a b (item.Template 0) ≡ false
+    still = ap not ((body-Decides (body_at a 0) (body_at b 0)).1 (ap (λ bs. unwrap_or (slice_get bs 0) []) same))
 
 row_affected : (a b : Content) (key : Word) → uses a (row_object key) ≡ row_object key ∷ [] → affected a b (row_object key) ≡ touched a b (row_object key)
 row_affected a b key one = ap (list_any (touched a b)) one ∙ or_false (touched a b (row_object key))
@@ -113,7 +119,7 @@ rows_counted site (Some a) b form settled is rise =
     let one = one_object site a form settled.0 in
     let touches : (k : Word) → (not (is_in (live a) (row_object k)) || touched a b (row_object k)) ≡ is_renewed (Some a) b k =
     λ k. ap (λ (v : Bool). not v || touched a b (row_object k)) (ap (λ (l : List Obj). is_in l (row_object k)) old.objects ∙ in_rows k (table a 0))
-    ∙ ap (λ (v : Bool). not (is_some (row a 0 k)) || v) (row_touched a b k (one.here k)) in
+    ∙ ap (λ (v : Bool). not (is_some (row a 0 k)) || v) (row_touched a b k (settled.0.bodies ∙ sym is.bodies) (one.here k)) in
     let affects : (k : Word) → (not (is_in (live a) (row_object k)) || affected a b (row_object k)) ≡ is_renewed (Some a) b k =
     λ k. ap (λ (v : Bool). not (is_in (live a) (row_object k)) || v) (row_affected a b k (one.uses k)) ∙ touches k in
     record {

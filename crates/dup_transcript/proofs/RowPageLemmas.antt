@@ -9,6 +9,10 @@ use Rattle.dup_names.specs.Order.{text_cmp, obj_cmp}
 use Rattle.dup_names.specs.Words.{Word, Path, in_order, same}
 use Rattle.dup_names.specs.declared.object.Obj.{Obj}
 use Rattle.dup_names.specs.declared.value.Look.{Look}
+use Rattle.dup_model.specs.Commits.{Commit}
+use Rattle.dup_model.specs.Tables.{AreOfRows}
+use Rattle.dup_model.specs.Versions.{content}
+use Rattle.dup_model.proofs.Histories.{content_of as content_is}
 use Rattle.dup_template.specs.declared.site.Parts.{Parts}
 use Rattle.dup_template.specs.declared.site.KindPart.{KindPart}
 use Rattle.dup_template.specs.declared.site.TemplatePart.{TemplatePart}
@@ -20,7 +24,7 @@ use Rattle.dup_template.specs.declared.statement.Statement.TheVariants.{rolls-Sa
 use Rattle.dup_template.specs.declared.statement.Statement.TheFolds.{fold-roll-Statement}
 use Rattle.dup_model.specs.Content.{Content, Table, IsOf, keys, start, table, body_at}
 use Rattle.dup_model.specs.Embeddings.{EmbedsEarlier, embedded}
-use Rattle.dup_model.specs.Frame.{Head, frame_of, bodies_of}
+use Rattle.dup_template.specs.Frame.{Head, frame_of, bodies_of}
 use Rattle.dup_model.specs.Here.{Here, row_at}
 use Rattle.dup_model.specs.Jobs.{IsJob}
 use Rattle.dup_model.specs.Looks.{look, uses}
@@ -256,3 +260,10 @@ earlier_from kinds templates rules is =
 
 pub embeds_earlier : (site : Parts) → is_first_form site ≡ true → EmbedsEarlier (start site)
 embeds_earlier site form = earlier_from site.kinds site.templates site.pages form
+
+-- so it is in each content that changes of rows make
+pub rows_embed_earlier : (site : Parts) → is_first_form site ≡ true → (commits : List Commit) → AreOfRows commits → EmbedsEarlier (content site commits)
+rows_embed_earlier site form commits rows =
+    let is : IsOf site (content site commits) = content_is site commits rows in
+    λ n. subst (λ f. AllByRecursion (λ name. template_at f name < n) (flat_map embedded (body_at (content site commits) n))) (sym is.frame)
+    (subst (λ l. AllByRecursion (λ name. template_at (frame_of site) name < n) (flat_map embedded (unwrap_or (slice_get l n) []))) (sym is.bodies) (embeds_earlier site form n))

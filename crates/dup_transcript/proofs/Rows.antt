@@ -1,5 +1,8 @@
 -- The worked examples, computed.
-use Rattle.std.proofs.Common.{refl}
+use Rattle.std.proofs.Common.{◌≡◌, List, true, refl}
+use Rattle.dup_template.specs.SameBody.{same_body}
+use Rattle.dup_template.specs.SameStatement.{body-Decides}
+use Rattle.dup_template.specs.declared.statement.Statement.{Statement}
 use Rattle.dup_template.specs.Good.{IsGood}
 use Rattle.dup_transcript.specs.NextRows.{chain}
 use Rattle.dup_transcript.specs.MedalRows.{medal_site}
@@ -7,6 +10,9 @@ use Rattle.dup_transcript.specs.ResultsRows.{results, EventPageRow, SecondResult
 use Rattle.dup_model.proofs.SiteRules.{rule-Say, rule-Field, rule-Each, rule-Embed, rule-Link}
 use Rattle.dup_model.proofs.Folds.{fold-Say, fold-Field, fold-Each, fold-Embed, fold-Link}
 use Rattle.dup_model.proofs.Equations.{marks-Say, marks-Field, marks-Each, marks-Embed}
+
+pub body_itself : (body : List Statement) → same_body body body ≡ true
+body_itself body = (body-Decides body body).1 refl
 
 pub results_good : IsGood results
 results_good = simp (fold-Say, fold-Field, fold-Each, fold-Embed, rule-Say, rule-Field, rule-Each, rule-Embed) refl
@@ -35,8 +41,8 @@ event_page_row = record {
 
 pub second_result_row : SecondResultRow
 second_result_row = record {
-  expanded = simp (marks-Say, marks-Field, marks-Each, marks-Embed) refl;
-  joined = simp (marks-Say, marks-Field, marks-Each, marks-Embed) refl;
+  expanded = simp (marks-Say, marks-Field, marks-Each, marks-Embed, body_itself) refl;
+  joined = simp (marks-Say, marks-Field, marks-Each, marks-Embed, body_itself) refl;
 }
 
 pub refusal_rows : RefusalRows

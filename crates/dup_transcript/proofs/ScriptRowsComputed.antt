@@ -1,4 +1,5 @@
 -- The worked example of a script, computed.
+use Rattle.dup_transcript.proofs.PressRowsComputed.{events_good}
 use Rattle.std.proofs.Common.{◌≡◌, ℕ, ◌+◌, ◌-◌, true, refl, sym, ap, ◌∙◌, subst, List, [], ◌∷◌, ◌++◌, length}
 use Rattle.std.specs.Prelude.{Bool, Some, None, codes, Ok, Err, Result, if◌then◌else◌}
 use Rattle.std.specs.Fmt.{digits}
@@ -14,7 +15,9 @@ use Rattle.dup_template.specs.declared.refusal.SiteTextRefusal.{SiteTextRefusal}
 use Rattle.dup_template.specs.declared.site.Parts.{Parts}
 use Rattle.dup_transcript.specs.BadSites.{or_cause}
 use Rattle.dup_transcript.specs.FirstForm.{if_first_form, not_built_site, or_not_built}
-use Rattle.dup_transcript.specs.Commands.{Command}
+use Rattle.dup_model.specs.Commits.{Commit}
+use Rattle.dup_model.specs.declared.feed_refusal.FeedRefusal.{FeedRefusal}
+use Rattle.dup_transcript.specs.Commands.{Command, of_message, playable, played_line}
 use Rattle.dup_model.specs.Content.{Content}
 use Rattle.dup_model.specs.Editions.{Page}
 use Rattle.dup_transcript.specs.FirstForm.{is_first_form}
@@ -144,9 +147,11 @@ pub script_row : ScriptRow
 script_row g h =
     let read : Reading = reading 0 0 input in
     let replied : MachinePlays events_site (limits_for all_commands) [] 8 all_commands [] (joined texts) =
-    (sessions_are_the_machines events_site 8 all_commands [] (joined texts) first_form (refl, (tt, (tt, (tt, (tt, (tt, (tt, (tt, tt))))))))).0 (plays first_session 8 all_commands texts all_told) in
-    let played : PlaysScript g.feed events_site 8 (script read) (joined texts) =
-    subst (λ (c : Command). MachinePlays events_site (limits_for (c ∷ (command.Settle ∷ later))) [] 8 (c ∷ (command.Settle ∷ later)) [] (joined texts)) (sym h.feed) replied in
+    (sessions_are_the_machines events_site 8 all_commands [] (joined texts) first_form events_good (refl, (tt, (tt, (tt, (tt, (tt, (tt, (tt, tt))))))))).0 (plays first_session 8 all_commands texts all_told) in
+    let played : PlaysScript (played_line g.feed) events_site 8 (script read) (joined texts) =
+    subst (λ (m : Result Commit FeedRefusal).
+    let all = playable (of_message m) ∷ (command.Settle ∷ later) in
+    MachinePlays events_site (limits_for all) [] 8 all [] (joined texts)) (sym h.feed) replied in
     let formed : DoesSite g Play (if_first_form events_site) read 0 output =
     subst (λ (b : Bool). DoesSite g Play (if b then Ok events_site else Err not_built_site) read 0 output) (sym first_form) (refl, (joined texts, refl, played)) in
     subst (λ (s : Result Parts SiteTextRefusal). DoesSite g Play (or_not_built (or_cause s)) read 0 output) (sym h.site) formed

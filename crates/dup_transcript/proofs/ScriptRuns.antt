@@ -6,15 +6,14 @@ use Rattle.std.proofs.lemmas.List.Sums.{fold-append}
 use Rattle.dup_names.specs.Lines.{Reading}
 use Rattle.dup_names.specs.Words.{Word}
 use Rattle.dup_template.specs.declared.site.Parts.{Parts}
-use Rattle.dup_model.specs.Content.{start}
-use Rattle.dup_model.specs.Embeddings.{EmbedsEarlier}
+use Rattle.dup_model.specs.GoodSites.{HistoriesEmbedEarlier}
 use Rattle.dup_model.specs.Journal.{Limits}
 use Rattle.dup_machine.specs.World.{Event, World, first_world}
 use Rattle.dup_machine.specs.Run.{run, step}
 use Rattle.dup_machine.proofs.Runs.{headline}
 use Rattle.dup_transcript.specs.declared.command.Command.TheVariants as command
 use Rattle.dup_transcript.specs.declared.task.Task.TheVariants.{Play}
-use Rattle.dup_transcript.specs.Commands.{Command}
+use Rattle.dup_transcript.specs.Commands.{Command, played_line}
 use Rattle.dup_transcript.specs.Inputs.{script, site_is_read, site_lines, site_text}
 use Rattle.dup_transcript.specs.MachinePlays.{IsReady, MachinePlays, StandsFor, limits_for}
 use Rattle.dup_transcript.specs.ScriptRuns.{HasRun, IsRun, LeavesNothing, PlaysEvents, TranscriptsAreRuns}
@@ -22,27 +21,28 @@ use Rattle.dup_transcript.specs.Transcript.{DoesRead, DoesSite, GivesGoodSites, 
 use Rattle.dup_transcript.proofs.MachineAnswers.{commands_leave_ready, settles_leave_nothing, starts_ready}
 use Rattle.dup_transcript.proofs.Transcripts.{played_embeds}
 
-module _ (site : Parts) (limits : Limits) (earlier : EmbedsEarlier (start site)) where
+module _ (site : Parts) (limits : Limits) (earlier : HistoriesEmbedEarlier site) where
   behind : (before events : List Event) → run site limits (before ++ events) ≡ fold (step site limits) (run site limits before) events
   behind before events = fold-append (step site limits) first_world before events
 
-  leaves : (c : Command) (w : World) (number : ℕ) (events : List Event) (said : Word) → IsReady w →
+  leaves : (c : Command) (w : World) (number : ℕ) (events : List Event) (said : Word) → IsReady site w →
       StandsFor site limits w number c events said → LeavesNothing site (fold (step site limits) w events) c
   leaves (command.Commit commit) w number events said r stands = tt
   leaves command.Settle w number events said r stands = settles_leave_nothing site limits w events stands.0 earlier r stands.1
   leaves (command.Node node capacity mode) w number events said r stands = tt
   leaves (command.Get node pass path) w number events said r stands = tt
+  leaves (command.BadFeed why) w number events said r stands = tt
   leaves command.Blank w number events said r stands = tt
   leaves command.NotBuilt w number events said r stands = tt
 
   -- the events of commands, one after another
-  collect : (cs : List Command) (before : List Event) (number : ℕ) (last out : Word) → IsReady (run site limits before) →
+  collect : (cs : List Command) (before : List Event) (number : ℕ) (last out : Word) → IsReady site (run site limits before) →
       MachinePlays site limits before number cs last out → (all : List Event) × PlaysEvents site limits before number cs last out all
   collect [] before number last out r plays = (before, (plays, refl))
   collect (c ∷ cs) before number last out r plays =
       let after : run site limits (before ++ plays.0) ≡ fold (step site limits) (run site limits before) plays.0 = behind before plays.0 in
-      let ready : IsReady (run site limits (before ++ plays.0)) =
-      subst IsReady (sym after) (commands_leave_ready site limits (run site limits before) (number + 1) c plays.0 plays.1.0 earlier r plays.1.1.1) in
+      let ready : IsReady site (run site limits (before ++ plays.0)) =
+      subst (IsReady site) (sym after) (commands_leave_ready site limits (run site limits before) (number + 1) c plays.0 plays.1.0 earlier r plays.1.1.1) in
       let rest : (all : List Event) × PlaysEvents site limits (before ++ plays.0) (number + 1) cs last plays.1.1.0 all =
       collect cs (before ++ plays.0) (number + 1) last plays.1.1.0 ready plays.1.1.3 in
       let nothing : LeavesNothing site (run site limits (before ++ plays.0)) c =
@@ -50,14 +50,14 @@ module _ (site : Parts) (limits : Limits) (earlier : EmbedsEarlier (start site))
       (rest.0, (plays.0, (plays.1.0, (plays.1.1.0, plays.1.1.1, plays.1.1.2, nothing, rest.1))))
 
 script_runs : (g : Grammars) → GivesGoodSites g → (input : Reading) (site : Parts) (out : Word) → site_for g Play (site_text input) ≡ Ok site →
-    (more : Word) × (out ≡ site_ok ++ more) × PlaysScript g.feed site (site_lines input) (script input) more → HasRun g input out
+    (more : Word) × (out ≡ site_ok ++ more) × PlaysScript (played_line g.feed) site (site_lines input) (script input) more → HasRun g input out
 script_runs g good input site out is plays other read same =
     let one : site ≡ other = cc in
-    let limits : Limits = limits_for (commands g.feed (script input)) in
-    let earlier : EmbedsEarlier (start site) = played_embeds g good (site_text input) site is in
-    let run_of : (all : List Event) × PlaysEvents site limits [] (site_lines input) (commands g.feed (script input)) (too_long (script input)) plays.0 all =
-    collect site limits earlier (commands g.feed (script input)) [] (site_lines input) (too_long (script input)) plays.0 starts_ready plays.2 in
-    subst (λ s. (more : Word) × (out ≡ site_ok ++ more) × IsRun g.feed s (site_lines input) (script input) more) one
+    let limits : Limits = limits_for (commands (played_line g.feed) (script input)) in
+    let earlier : HistoriesEmbedEarlier site = played_embeds g good (site_text input) site is in
+    let run_of : (all : List Event) × PlaysEvents site limits [] (site_lines input) (commands (played_line g.feed) (script input)) (too_long (script input)) plays.0 all =
+    collect site limits earlier (commands (played_line g.feed) (script input)) [] (site_lines input) (too_long (script input)) plays.0 (starts_ready site) plays.2 in
+    subst (λ s. (more : Word) × (out ≡ site_ok ++ more) × IsRun (played_line g.feed) s (site_lines input) (script input) more) one
     (plays.0, plays.1, (run_of.0, run_of.1, headline site limits run_of.0))
 
 site_runs : (g : Grammars) → GivesGoodSites g → (input : Reading) (site : Result Parts Word) (status : ℕ) (out : Word) → site_for g Play (site_text input) ≡ site →

@@ -13,7 +13,7 @@ use Rattle.dup_names.specs.Order.{text_cmp}
 use Rattle.dup_names.specs.Words.{Word, Path}
 use Rattle.dup_names.specs.declared.value.Look.{Look}
 use Rattle.dup_template.specs.declared.site.Parts.{Parts}
-use Rattle.dup_model.specs.declared.edit.Edit.TheVariants.{Put, Remove}
+use Rattle.dup_model.specs.declared.edit.Edit.TheVariants.{Put, Remove, Replace}
 use Rattle.dup_model.specs.Commits.{Commit, Refusal, after, put_row, put_row_at}
 use Rattle.dup_model.specs.Content.{Content, Entry, Table, start, table}
 use Rattle.dup_model.specs.Editions.{Page, looks, target_looks}
@@ -22,6 +22,8 @@ use Rattle.dup_model.specs.Pages.{target}
 use Rattle.dup_model.specs.Tables.{IsBelow, IsRising}
 use Rattle.dup_model.specs.Journal.{unless_refused}
 use Rattle.dup_model.specs.Versions.{content}
+use Rattle.std.specs.List.{AllByRecursion}
+use Rattle.dup_model.specs.Tables.{AreOfRows, IsOfRow}
 use Rattle.dup_model.proofs.Histories.{content_of}
 use Rattle.dup_model.proofs.Sound.{look_same}
 use Rattle.dup_model.proofs.Tables.{versions_rise}
@@ -30,7 +32,8 @@ use Rattle.dup_transcript.specs.declared.command.Command.TheVariants as command
 use Rattle.dup_transcript.specs.FirstForm.{is_first_form}
 use Rattle.dup_transcript.specs.RowPages.{prefix_in, row_page, row_path}
 use Rattle.dup_model.specs.Journal.{refused_behind}
-use Rattle.dup_transcript.specs.Sessions.{IsPutting, Session, Published, with_pages, with_page, shows, after_command, settled, first_session, has_node}
+use Rattle.dup_transcript.specs.Commands.{IsPutting}
+use Rattle.dup_transcript.specs.Sessions.{Session, Published, with_pages, with_page, shows, after_command, settled, first_session, has_node}
 use Rattle.dup_model.specs.Pages.{page_looks}
 use Rattle.dup_model.proofs.Reached.{tie_same}
 use Rattle.dup_model.proofs.Rising.{text_cmp_front}
@@ -137,35 +140,55 @@ module _ (site : Parts) where
   after_put q c [] is h = absurd (cc)
   after_put q c (Put name key fields ∷ []) is h = first_has q c.tables (kind_at c.frame name) _ h (λ z. put_has q c (kind_at c.frame name) _ h z)
   after_put q c (Remove name key ∷ []) is h = absurd (cc)
+  after_put q c (Replace name body ∷ []) is h = absurd (cc)
   after_put q c (d ∷ e ∷ es) is h = absurd (cc)
 
+-- a commit of one put is of rows
+pub of_one_put : (commit : Commit) → is_one_put commit ≡ true → AllByRecursion IsOfRow commit
+of_one_put [] is = absurd (cc)
+of_one_put (Put name key fields ∷ []) is = (tt, tt)
+of_one_put (Remove name key ∷ []) is = absurd (cc)
+of_one_put (Replace name body ∷ []) is = absurd (cc)
+of_one_put (d ∷ e ∷ es) is = absurd (cc)
+
+one_more_of : (commits : List Commit) (commit : Commit) → AreOfRows commits → AllByRecursion IsOfRow commit → AreOfRows (commits ++ commit ∷ [])
+one_more_of [] commit all one = (one, tt)
+one_more_of (c ∷ cs) commit all one = (all.0, one_more_of cs commit all.1 one)
+
 module _ (site : Parts) (form : is_first_form site ≡ true) where
-  -- each path of the edition is that of a row of the last version
-  abbrev pub Covers : Session → Type 0
-  Covers s = (q : Path) → is_some (looks s.edition q) ≡ true → has site q (table (content site s.commits) 0) ≡ true
+  -- the commits are of rows, and each path of the edition is that of a row of the last version
+  pub record Covers (s : Session) : Type 0 where
+    pub of_rows : AreOfRows s.commits
+    pub paths : (q : Path) → is_some (looks s.edition q) ≡ true → has site q (table (content site s.commits) 0) ≡ true
 
   abbrev pub rows_of : Session → Table
   rows_of s = table (content site s.commits) 0
 
   -- the looks of the edition after a settle
-  pub settled_looks : (s : Session) (q : Path)
+  pub settled_looks : (s : Session) → AreOfRows s.commits → (q : Path)
       → looks (settled site s).edition q ≡ option_or (fin.find text_cmp q (pages_from site (content site s.commits) (rows_of s))) (looks s.edition q)
-  settled_looks s q =
+  settled_looks s of q =
       let c = content site s.commits in
       let rise = versions_rise site s.commits in
-      let pages : page_looks c ≡ pages_from site c (table c 0) = (row_pages site c form (content_of site s.commits) rise).pages in
+      let pages : page_looks c ≡ pages_from site c (table c 0) = (row_pages site c form (content_of site s.commits of) rise).pages in
       ap (λ (l : List (Path × Look)). looks (with_pages (length s.commits) l (record { number = s.number; edition = s.edition })).edition q) pages
       ∙ published_looks (length s.commits) (pages_from site c (table c 0)) (distinct_rows site c (table c 0) (rising_table c.tables rise)) (record { number = s.number; edition = s.edition }) q
 
   covers_commit : (s : Session) (commit : Commit) (why : Option Refusal) → is_one_put commit ≡ true → Covers s → Covers (record s { commits = unless_refused s.commits commit why })
   covers_commit s commit (Some why) is h = h
-  covers_commit s commit None is h = λ q there.
-      subst (λ (c : Content). has site q (table c 0) ≡ true) (sym (fold-append after (start site) s.commits (commit ∷ []))) (after_put site q (content site s.commits) commit is (h q there))
+  covers_commit s commit None is h = record {
+    of_rows = one_more_of s.commits commit h.of_rows (of_one_put commit is);
+    paths = λ q there.
+        subst (λ (c : Content). has site q (table c 0) ≡ true) (sym (fold-append after (start site) s.commits (commit ∷ []))) (after_put site q (content site s.commits) commit is (h.paths q there));
+  }
 
   covers_settle : (s : Session) → Covers s → Covers (settled site s)
-  covers_settle s h = λ q there.
-      let c = content site s.commits in
-      by_find q (fin.find text_cmp q (pages_from site c (table c 0))) (looks s.edition q) (found_rows site c q (table c 0)) (sym (ap is_some (settled_looks s q)) ∙ there) (h q)
+  covers_settle s h = record {
+    of_rows = h.of_rows;
+    paths = λ q there.
+        let c = content site s.commits in
+        by_find q (fin.find text_cmp q (pages_from site c (table c 0))) (looks s.edition q) (found_rows site c q (table c 0)) (sym (ap is_some (settled_looks s h.of_rows q)) ∙ there) (h.paths q);
+  }
     where
       by_find : (q : Path) (a b : Option Look) → is_some a ≡ has site q (rows_of s) → is_some (option_or a b) ≡ true → (is_some b ≡ true → has site q (rows_of s) ≡ true) → has site q (rows_of s) ≡ true
       by_find q (Some a) b is there old = sym is
@@ -173,25 +196,29 @@ module _ (site : Parts) (form : is_first_form site ≡ true) where
 
   covers_node : (s : Session) (node : ℕ) (b : Bool) → Covers s → Covers (if b then s else record s { nodes = s.nodes ++ node ∷ [] })
   covers_node s node true h = h
-  covers_node s node false h = h
+  covers_node s node false h = record { of_rows = h.of_rows; paths = h.paths }
 
   pub covers_one : (s : Session) (c : Command) → IsPutting c → Covers s → Covers (after_command site s c)
   covers_one s (command.Commit commit) is h = covers_commit s commit (refused_behind site s.commits commit) is h
   covers_one s command.Settle is h = covers_settle s h
   covers_one s (command.Node node capacity mode) is h = covers_node s node (has_node s node) h
   covers_one s (command.Get node pass path) is h = h
+  covers_one s (command.BadFeed why) is h = h
   covers_one s command.Blank is h = h
   covers_one s command.NotBuilt is h = h
 
   pub covers_first : Covers first_session
-  covers_first q there = absurd (let e : fin.get (fin.empty {X = Page} {R = text_cmp}) q ≡ None = fin.get-empty text_cmp q in let f : is_some (looks fin.empty q) ≡ false = ap (λ (o : Option Page). is_some (option_map (λ page. page.look) o)) e in cc)
+  covers_first = record { of_rows = tt; paths = λ q there. none q there }
+    where
+      none : (q : Path) → is_some (looks fin.empty q) ≡ true → has site q (table (content site []) 0) ≡ true
+      none q there = absurd (let e : fin.get (fin.empty {X = Page} {R = text_cmp}) q ≡ None = fin.get-empty text_cmp q in let f : is_some (looks fin.empty q) ≡ false = ap (λ (o : Option Page). is_some (option_map (λ page. page.look) o)) e in cc)
 
   pub whole_after : (s : Session) → Covers s → (q : Path) → looks (settled site s).edition q ≡ target_looks (target (content site s.commits)) q
   whole_after s h q =
       let c = content site s.commits in
-      let pages : page_looks c ≡ pages_from site c (table c 0) = (row_pages site c form (content_of site s.commits) (versions_rise site s.commits)).pages in
-      settled_looks s q
-      ∙ by_find (fin.find text_cmp q (pages_from site c (table c 0))) (looks s.edition q) (λ there. found_rows site c q (table c 0) ∙ h q there)
+      let pages : page_looks c ≡ pages_from site c (table c 0) = (row_pages site c form (content_of site s.commits h.of_rows) (versions_rise site s.commits)).pages in
+      settled_looks s h.of_rows q
+      ∙ by_find (fin.find text_cmp q (pages_from site c (table c 0))) (looks s.edition q) (λ there. found_rows site c q (table c 0) ∙ h.paths q there)
       ∙ sym (fin.get-from_entries nat_list_cmp_total (page_looks c) q ∙ ap (fin.find text_cmp q) pages)
     where
       by_find : (a b : Option Look) → (is_some b ≡ true → is_some a ≡ true) → option_or a b ≡ a

@@ -5,8 +5,8 @@ use Rattle.dup_names.specs.Lines.{Reading}
 use Rattle.dup_names.specs.Words.{Word}
 use Rattle.dup_template.specs.declared.refusal.SiteTextRefusal.{SiteTextRefusal}
 use Rattle.dup_template.specs.declared.site.Parts.{Parts}
-use Rattle.dup_model.specs.Content.{start}
-use Rattle.dup_model.specs.Embeddings.{EmbedsEarlier}
+use Rattle.dup_model.specs.GoodSites.{HistoriesEmbedEarlier}
+use Rattle.dup_transcript.specs.Commands.{line_command, played_line}
 use Rattle.dup_transcript.specs.BadSites.{or_cause}
 use Rattle.dup_transcript.specs.FirstForm.{not_built_site, or_not_built}
 use Rattle.dup_transcript.specs.FirstForm.{is_first_form}
@@ -16,7 +16,7 @@ use Rattle.dup_transcript.specs.Transcript.{Does, DoesRead, DoesSite, GivesGoodS
 use Rattle.dup_transcript.specs.declared.task.Task.{Task}
 use Rattle.dup_transcript.specs.declared.task.Task.TheVariants.{Play, Check, Render}
 use Rattle.dup_transcript.proofs.MachineAnswers.{plays_are_one, plays_exist}
-use Rattle.dup_model.proofs.GoodSites.{good_embeds_earlier}
+use Rattle.dup_model.proofs.GoodVersions.{good_histories}
 
 -- a site that is played is of the first form
 pub played_form : (text : Result Parts Word) (site : Parts) → or_not_built text ≡ Ok site → is_first_form site ≡ true
@@ -35,14 +35,13 @@ one_played p site is = by_test (is_first_form p) is
     by_test true is = cc
     by_test false is = absurd (cc)
 
-played : (text : Result Parts SiteTextRefusal) (site : Parts) → or_not_built (or_cause text) ≡ Ok site → text ≡ Ok site
+pub played : (text : Result Parts SiteTextRefusal) (site : Parts) → or_not_built (or_cause text) ≡ Ok site → text ≡ Ok site
 played (Err why) site is = absurd (cc)
 played (Ok p) site is = ap (λ q. let r : Result Parts SiteTextRefusal = Ok q in r) (one_played p site is)
 
--- its templates embed earlier ones
-pub played_embeds : (g : Grammars) → GivesGoodSites g → (text : Word) (site : Parts) → site_for g Play text ≡ Ok site → EmbedsEarlier (start site)
-played_embeds g good text site is =
-    good_embeds_earlier site (start site) (good text site (played (g.site text) site is)) (record { frame = refl; bodies = refl })
+-- in its histories templates embed earlier ones
+pub played_embeds : (g : Grammars) → GivesGoodSites g → (text : Word) (site : Parts) → site_for g Play text ≡ Ok site → HistoriesEmbedEarlier site
+played_embeds g good text site is = good_histories site (good text site (played (g.site text) site is))
 
 -- the site of a text, where a task takes it
 abbrev IsTaken : Grammars → Task → Parts → Type 0
@@ -50,11 +49,11 @@ IsTaken g task site = (text : Word) × (site_for g task text ≡ Ok site)
 
 does_one : (g : Grammars) → GivesGoodSites g → (task : Task) (site : Parts) (input : Reading) → IsTaken g task site → (status : ℕ) × ((out : Word) × Does g task site input status out)
 does_one g good Play site input taken =
-    let played : (out : Word) × PlaysScript g.feed site (site_lines input) (script input) out =
-    plays_exist site (limits_for (commands g.feed (script input))) (site_lines input) (commands g.feed (script input)) (too_long (script input)) (played_embeds g good taken.0 site taken.1) in
+    let played : (out : Word) × PlaysScript (played_line g.feed) site (site_lines input) (script input) out =
+    plays_exist site (limits_for (commands (played_line g.feed) (script input))) (site_lines input) (commands (played_line g.feed) (script input)) (too_long (script input)) (played_embeds g good taken.0 site taken.1) in
     (ending input, (site_ok ++ played.0, (refl, (played.0, refl, played.1))))
 does_one g good Check site input taken = (0, (g.canonical site, (refl, refl)))
-does_one g good Render site input taken = (ending input, (rendered g.feed site [] (site_lines input) (script input), (refl, refl)))
+does_one g good Render site input taken = (ending input, (rendered (line_command g.feed) site [] (site_lines input) (script input), (refl, refl)))
 
 site_done : (g : Grammars) → GivesGoodSites g → (task : Task) (text : Word) (site : Result Parts Word) (input : Reading) → site_for g task text ≡ site → (status : ℕ) × ((out : Word) × DoesSite g task site input status out)
 site_done g good task text (Ok site) input is = does_one g good task site input (text, is)
@@ -72,7 +71,7 @@ one_task : (g : Grammars) → GivesGoodSites g → (task : Task) (site : Parts) 
     → (s ≡ t) × (out ≡ other)
 one_task g good Play site input s t out other taken a b = (
   a.0 ∙ sym b.0,
-  a.1.1 ∙ ap (λ (more : Word). site_ok ++ more) (plays_are_one site (limits_for (commands g.feed (script input))) (site_lines input) (commands g.feed (script input)) (too_long (script input)) a.1.0 b.1.0
+  a.1.1 ∙ ap (λ (more : Word). site_ok ++ more) (plays_are_one site (limits_for (commands (played_line g.feed) (script input))) (site_lines input) (commands (played_line g.feed) (script input)) (too_long (script input)) a.1.0 b.1.0
       (played_embeds g good taken.0 site taken.1) a.1.2 b.1.2) ∙ sym b.1.1,
 )
 one_task g good Check site input s t out other taken a b = (a.0 ∙ sym b.0, a.1 ∙ sym b.1)

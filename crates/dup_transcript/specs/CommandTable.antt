@@ -5,7 +5,7 @@ use Rattle.std.specs.List.{list_all}
 use Rattle.dup_names.specs.Grammar.{is_path}
 use Rattle.dup_names.specs.LineWords.{is_space, spaced}
 use Rattle.dup_names.specs.Words.{Word}
-use Rattle.dup_transcript.specs.Commands.{Command, is_capacity, is_node, line_command}
+use Rattle.dup_transcript.specs.Commands.{Feed, is_capacity, is_node, line_command, of_message}
 use Rattle.dup_transcript.specs.declared.command.Command.TheVariants.{Blank, Settle, Node, Get, NotBuilt}
 use Rattle.dup_model.specs.declared.mode.Mode.{Mode}
 use Rattle.dup_model.specs.declared.mode.Mode.TheVariants.{Invalidate, Update}
@@ -14,13 +14,13 @@ abbrev pub mode_word : Mode → Word
 mode_word Update = codes "update"
 mode_word Invalidate = codes "invalidate"
 
--- what each form of line commands, given what a feed message commands; `#` is 35
-pub record ReadsEach (feed : Word → Command) : Type 0 where
+-- what each form of line commands, given what feed messages say; `#` is 35
+pub record ReadsEach (feed : Feed) : Type 0 where
   pub nothing : line_command feed [] ≡ Blank
   pub space : (text : Word) → line_command feed (32 ∷ text) ≡ line_command feed text
   pub comment : (text : Word) → line_command feed (35 ∷ text) ≡ Blank
   pub commit : (message : Word) → list_all is_space message ≡ false →
-      line_command feed (codes "commit " ++ message) ≡ feed message
+      line_command feed (codes "commit " ++ message) ≡ of_message (feed message)
   pub no_message : (spaces : Word) → list_all is_space spaces ≡ true →
       line_command feed (codes "commit" ++ spaces) ≡ NotBuilt
   pub settle : (spaces : Word) → list_all is_space spaces ≡ true →
@@ -33,4 +33,4 @@ pub record ReadsEach (feed : Word → Command) : Type 0 where
       ∷ [])) ≡ Get number pass path
 
 abbrev pub EachIsRead : Type 0
-EachIsRead = (feed : Word → Command) → ReadsEach feed
+EachIsRead = (feed : Feed) → ReadsEach feed

@@ -6,43 +6,17 @@ use Rattle.std.specs.FinMap as fin
 use Rattle.dup_names.specs.Words.{Word}
 use Rattle.dup_template.specs.declared.site.Parts.{Parts}
 use Rattle.dup_transcript.specs.Commands.{Command}
-use Rattle.dup_model.specs.Content.{start}
-use Rattle.dup_model.specs.Embeddings.{EmbedsEarlier}
+use Rattle.dup_model.specs.GoodSites.{HistoriesEmbedEarlier}
 use Rattle.dup_model.specs.Journal.{Limits, commit_bytes, usual_limits}
-use Rattle.dup_model.specs.Pages.{live}
+use Rattle.dup_model.specs.Versions.{IsHistory}
 use Rattle.dup_machine.specs.Run.{run, step}
-use Rattle.dup_machine.specs.Settle.{publishes, settling}
+use Rattle.dup_machine.specs.Settle.{Settles}
 use Rattle.dup_machine.specs.Status.{NothingPending}
-use Rattle.dup_transcript.specs.Texts.{not_built_text, settled_text, told_text}
-use Rattle.dup_model.specs.Versions.{content}
+use Rattle.dup_machine.specs.Until.{LastTold}
+use Rattle.dup_transcript.specs.Texts.{bad_feed_text, not_built_text, settled_text, told_text}
 use Rattle.dup_machine.specs.World.{Counts, Event, Told, World, first_world}
-use Rattle.dup_machine.specs.World.Begun.{Nothing}
-use Rattle.dup_machine.specs.World.Ended.{Report}
-use Rattle.dup_machine.specs.World.Event.{Begin, Comes, Node, Request}
-use Rattle.dup_machine.specs.World.Told.{Begins, Finished, NothingChanged}
+use Rattle.dup_machine.specs.World.Event.{Comes, Node, Request}
 use Rattle.dup_transcript.specs.declared.command.Command.TheVariants as command
-
--- the last reply
-abbrev pub LastTold : World → Told → Type 0
-LastTold w reply = (before : List Told) × (w.replies ≡ before ++ reply ∷ [])
-
--- what a settle does and counts: what waits is handed, expanded and put, all levels are joined, the work is
--- finished, and bundles are published until nothing is changed;
--- where there is nothing to begin, bundles are published at once
-pub data Settles (site : Parts) (limits : Limits) (w : World) : List Event → Counts → Type 0 where
-  by_work : (k m n : ℕ) (counts : Counts) →
-      LastTold (fold (step site limits) w (settling k m)) (Finished (Report counts)) →
-      LastTold (fold (step site limits) w (settling k m ++ publishes n)) NothingChanged →
-      Settles site limits w (settling k m ++ publishes n) counts
-  at_once : (v n : ℕ) → LastTold (step site limits w Begin) (Begins (Nothing v)) →
-      LastTold (fold (step site limits) w (Begin ∷ publishes n)) NothingChanged →
-      Settles site limits w (Begin
-      ∷ publishes n) (record {
-        version = v;
-        expanded = 0;
-        joined = 0;
-        kept = length (live (content site w.commits));
-      })
 
 -- this is written of the reply to an event
 abbrev pub IsTold : Parts → Limits → World → Event → Word → Type 0
@@ -62,6 +36,7 @@ StandsFor site limits w number (command.Node node capacity mode) events out =
     (events ≡ Node node capacity mode ∷ []) × IsTold site limits w (Node node capacity mode) out
 StandsFor site limits w number (command.Get node pass path) events out =
     (events ≡ Request node pass path false ∷ []) × IsTold site limits w (Request node pass path false) out
+StandsFor site limits w number (command.BadFeed why) events out = (events ≡ []) × (out ≡ bad_feed_text why)
 StandsFor site limits w number command.Blank events out = (events ≡ []) × (out ≡ [])
 StandsFor site limits w number command.NotBuilt events out = (events ≡ []) × (out ≡ not_built_text number)
 
@@ -84,36 +59,38 @@ abbrev pub limits_for : List Command → Limits
 limits_for commands =
     record { rows = usual_limits.rows; commits = length commands; bytes = sum_by command_bytes commands }
 
--- where the machine is between two commands: no work is open, and the slot of a settle is empty
-pub record IsReady (w : World) : Type 0 where
+-- where the machine is between two commands: no work is open, the slot of a settle is empty, and the commits
+-- are a history
+pub record IsReady (site : Parts) (w : World) : Type 0 where
   pub idle : w.work ≡ None
   pub slot : fin.get w.slots 0 ≡ None
+  pub allowed : IsHistory site w.commits
 
 -- so it is before the first command
 abbrev pub StartsReady : Type 0
-StartsReady = IsReady first_world
+StartsReady = (site : Parts) → IsReady site first_world
 
 -- and after each
 abbrev pub CommandsLeaveReady : Type 0
 CommandsLeaveReady =
     (site : Parts) (limits : Limits) (w : World) (number : ℕ) (command : Command) (events : List Event)
-    (out : Word) → EmbedsEarlier (start site) → IsReady w →
-    StandsFor site limits w number command events out → IsReady (fold (step site limits) w events)
+    (out : Word) → HistoriesEmbedEarlier site → IsReady site w →
+    StandsFor site limits w number command events out → IsReady site (fold (step site limits) w events)
 
 -- each list of commands is answered by the machine, and in one way
 abbrev pub PlaysExist : Type 0
 PlaysExist = (site : Parts) (limits : Limits) (number : ℕ) (commands : List Command) (last : Word) →
-    EmbedsEarlier (start site) →
+    HistoriesEmbedEarlier site →
     (out : Word) × MachinePlays site limits [] number commands last out
 
 abbrev pub PlaysAreOne : Type 0
 PlaysAreOne = (site : Parts) (limits : Limits) (number : ℕ) (commands : List Command) (last a b : Word) →
-    EmbedsEarlier (start site) →
+    HistoriesEmbedEarlier site →
     MachinePlays site limits [] number commands last a → MachinePlays site limits [] number commands last b →
     a ≡ b
 
 -- once settled, nothing is pending
 abbrev pub SettlesLeaveNothing : Type 0
 SettlesLeaveNothing = (site : Parts) (limits : Limits) (w : World) (events : List Event) (counts : Counts) →
-    EmbedsEarlier (start site) → IsReady w →
+    HistoriesEmbedEarlier site → IsReady site w →
     Settles site limits w events counts → NothingPending site (fold (step site limits) w events)

@@ -8,15 +8,15 @@ use Rattle.dup_names.specs.Words.{Word}
 use Rattle.dup_model.specs.declared.mode.Mode.{Mode}
 use Rattle.dup_transcript.specs.declared.command.Command.TheVariants as command
 use Rattle.dup_transcript.specs.CommandTable.{mode_word}
-use Rattle.dup_transcript.specs.Commands.{Command, is_capacity, is_node, line_command}
+use Rattle.dup_transcript.specs.Commands.{Command, Feed, is_capacity, is_node, line_command, of_message}
 
--- a line of the table and what it commands, whatever spaces stand round its words; `#` is 35. What a feed
--- message commands is handed in
-pub data IsInTable (feed : Word → Command) (text : Word) : Command → Type 0 where
+-- a line of the table and what it commands, whatever spaces stand round its words; `#` is 35. What feed
+-- messages say is handed in
+pub data IsInTable (feed : Feed) (text : Word) : Command → Type 0 where
   blank : trimmed text ≡ [] → IsInTable feed text command.Blank
   comment : (rest : Word) → trimmed text ≡ 35 ∷ rest → IsInTable feed text command.Blank
   commit : (message : Word) → trimmed text ≡ codes "commit " ++ message → list_all is_space message ≡ false →
-      IsInTable feed text (feed message)
+      IsInTable feed text (of_message (feed message))
   settle : line_words text ≡ codes "settle" ∷ [] → IsInTable feed text command.Settle
   node : (number capacity : ℕ) (mode : Mode) → is_node number ≡ true → is_capacity capacity ≡ true →
       line_words text ≡ codes "node" ∷ (decimal number ∷ (decimal capacity ∷ (mode_word mode ∷ []))) →
@@ -27,5 +27,5 @@ pub data IsInTable (feed : Word → Command) (text : Word) : Command → Type 0 
 
 -- each line is one of the table, or isn't built
 abbrev pub OnlyTheTable : Type 0
-OnlyTheTable = (feed : Word → Command) (text : Word) →
+OnlyTheTable = (feed : Feed) (text : Word) →
     IsInTable feed text (line_command feed text) ⊎ (line_command feed text ≡ command.NotBuilt)

@@ -5,7 +5,7 @@ use Rattle.std.specs.FinMap as fin
 use Rattle.dup_names.specs.Words.{Word}
 use Rattle.dup_names.specs.declared.object.Obj.{Obj}
 use Rattle.dup_names.specs.declared.object.Item.TheVariants as item
-use Rattle.dup_names.specs.declared.value.Value.TheVariants as seen
+use Rattle.dup_template.specs.declared.value.Value.TheVariants as seen
 use Rattle.dup_template.specs.declared.site.Parts.{Parts}
 use Rattle.dup_template.specs.declared.site.PageRule.TheVariants.{Family}
 use Rattle.dup_template.specs.declared.statement.Statement.TheVariants as s

@@ -11,26 +11,31 @@ use Rattle.dup_model.specs.Commits.{Commit, Refusal}
 use Rattle.dup_model.specs.Versions.{content}
 use Rattle.dup_model.specs.Pages.{pages}
 use Rattle.dup_model.specs.Show.{show}
-use Rattle.dup_model.specs.Journal.{refused_behind, with_commit}
-use Rattle.dup_transcript.specs.Texts.{not_built_text, refusal_text}
+use Rattle.dup_model.specs.Journal.{commit_refusal, unless_refused, usual_limits}
+use Rattle.dup_transcript.specs.Texts.{bad_feed_text, bad_line_text, refusal_text}
 use Rattle.dup_transcript.specs.Commands.{Command}
 use Rattle.dup_transcript.specs.declared.command.Command.TheVariants as command
 
+-- why a commit is refused behind these commits, within the usual limits
+abbrev pub refused_now : Parts → List Commit → Commit → Option Refusal
+refused_now site commits commit = commit_refusal site usual_limits commits commit
+
 -- the commits after a command: nothing but a commit changes them
 abbrev pub accepted : Parts → List Commit → Command → List Commit
-accepted site commits (command.Commit commit) = with_commit site commits commit
+accepted site commits (command.Commit commit) = unless_refused commits commit (refused_now site commits commit)
 accepted site commits _ = commits
 
 abbrev pub refusal_line : Option Refusal → Word
 refusal_line None = []
 refusal_line (Some why) = refusal_text why
 
--- the answer to the command in the line of this number: a refusal is told, and an accepted commit writes
--- nothing
+-- the answer to the command in the line of this number: a refusal is told, an accepted commit writes
+-- nothing, and what is no commit is a bad line
 abbrev pub render_answer : Parts → List Commit → ℕ → Command → Word
-render_answer site commits number (command.Commit commit) = refusal_line (refused_behind site commits commit)
+render_answer site commits number (command.Commit commit) = refusal_line (refused_now site commits commit)
+render_answer site commits number (command.BadFeed why) = bad_feed_text why
 render_answer site commits number command.Blank = []
-render_answer site commits number _ = not_built_text number
+render_answer site commits number _ = bad_line_text number
 
 -- the answers to commands, behind these commits and so many lines
 abbrev pub render_answers : Parts → List Commit → ℕ → List Command → Word

@@ -5,7 +5,7 @@ use Rattle.dup_names.specs.Words.{Word}
 use Rattle.dup_names.specs.declared.object.Obj.{Obj}
 use Rattle.dup_names.specs.declared.object.Item.{Item}
 use Rattle.dup_names.specs.declared.object.Item.TheVariants as item
-use Rattle.dup_names.specs.declared.value.Value.TheVariants as seen
+use Rattle.dup_template.specs.declared.value.Value.TheVariants as seen
 use Rattle.dup_names.specs.declared.value.Piece.TheVariants as piece
 use Rattle.dup_names.specs.declared.value.Look.{Look}
 use Rattle.dup_template.specs.declared.site.Parts.{Parts}
@@ -13,7 +13,7 @@ use Rattle.dup_template.specs.declared.site.PageRule.TheVariants.{Family}
 use Rattle.dup_template.specs.declared.statement.Statement.TheVariants as s
 use Rattle.dup_model.specs.declared.edit.Edit.{Edit}
 use Rattle.dup_model.specs.declared.edit.Edit.TheVariants.{Put, Remove}
-use Rattle.dup_model.specs.Content.{Content, start, value}
+use Rattle.dup_model.specs.Content.{Content, body_at, start, value}
 use Rattle.dup_model.specs.Commits.{Commit, refusal, UnknownKind, UnknownField, NoRow, KindFull, JournalFull}
 use Rattle.dup_model.specs.Versions.{content}
 use Rattle.dup_model.specs.Journal.{Limits, commit_refusal}
@@ -112,7 +112,8 @@ pub record EventPageRow : Type 0 where
       ((place_of (codes "r1"), seen.Text (codes "2"))
       ∷ ((place_of (codes "r2"), seen.Text (codes "10"))
       ∷ ((place_of (codes "r3"), seen.Text (codes "9")) ∷
-      ((of_event, seen.Keys (codes "r1" ∷ (codes "r2" ∷ (codes "r3" ∷ [])))) ∷ []))))
+      ((of_event, seen.Keys (codes "r1" ∷ (codes "r2" ∷ (codes "r3" ∷ []))))
+      ∷ ((item.Template 1, seen.Body (body_at first_version 1)) ∷ [])))))
   pub skeleton : skeleton first_version event_page ≡ record {
     pieces = piece.Plain (codes "<h1>100m</h1>")
         ∷ (piece.Hole (line (codes "r1"))

@@ -5,7 +5,6 @@ use Rattle.dup_names.specs.Words.{Word}
 use Rattle.dup_transcript.specs.PressRows.{events_site, title}
 use Rattle.dup_transcript.specs.Transcript.{Grammars, IsTranscript}
 use Rattle.dup_transcript.specs.WrittenLines.{text_of}
-use Rattle.dup_transcript.specs.declared.command.Command.TheVariants as command
 use Rattle.dup_transcript.specs.declared.task.Task.TheVariants.{Play}
 
 abbrev pub site_lines : List Word
@@ -51,7 +50,7 @@ output = text_of (
 -- what the grammars that stand above say of this site text and of this feed message
 pub record ReadsScript (g : Grammars) : Type 0 where
   pub site : g.site (text_of site_lines) ≡ Ok events_site
-  pub feed : g.feed message ≡ command.Commit (title (codes "100m"))
+  pub feed : g.feed message ≡ Ok (title (codes "100m"))
 
 abbrev pub ScriptRow : Type 0
 ScriptRow = (g : Grammars) → ReadsScript g → IsTranscript g Play (reading 0 0 input) 0 output

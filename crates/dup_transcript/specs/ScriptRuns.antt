@@ -11,7 +11,7 @@ use Rattle.dup_machine.specs.Status.{NothingPending}
 use Rattle.dup_machine.specs.Headline.{HeadlineAt}
 use Rattle.dup_transcript.specs.declared.command.Command.TheVariants as command
 use Rattle.dup_transcript.specs.declared.task.Task.TheVariants.{Play}
-use Rattle.dup_transcript.specs.Commands.{Command}
+use Rattle.dup_transcript.specs.Commands.{Command, played_line}
 use Rattle.dup_transcript.specs.Inputs.{script, site_is_read, site_lines, site_text}
 use Rattle.dup_transcript.specs.MachinePlays.{StandsFor, limits_for}
 use Rattle.dup_transcript.specs.Transcript.{GivesGoodSites, Grammars, IsTranscript, commands, site_for, site_ok, too_long}
@@ -35,8 +35,8 @@ PlaysEvents site limits before number (command ∷ rest) last out all =
 -- what is written for a script behind a site text of so many lines is what the machine replies to some
 -- events, and of their run the headline holds
 abbrev pub IsRun : (Word → Command) → Parts → ℕ → Reading → Word → Type 0
-IsRun feed site number input out =
-    let all = commands feed input in
+IsRun asks site number input out =
+    let all = commands asks input in
     let limits = limits_for all in
     (events : List Event) × PlaysEvents site limits [] number all (too_long input) out events
     × HeadlineAt site limits events
@@ -46,7 +46,7 @@ IsRun feed site number input out =
 abbrev pub HasRun : Grammars → Reading → Word → Type 0
 HasRun g input out = (site : Parts) → site_is_read input ≡ true →
     site_for g Play (site_text input) ≡ Ok site →
-    (more : Word) × (out ≡ site_ok ++ more) × IsRun g.feed site (site_lines input) (script input) more
+    (more : Word) × (out ≡ site_ok ++ more) × IsRun (played_line g.feed) site (site_lines input) (script input) more
 
 -- so it is with each transcript of `play`
 abbrev pub TranscriptsAreRuns : Type 0

@@ -6,6 +6,7 @@ use Rattle.std.specs.FinMap as fin
 use Rattle.dup_names.specs.Lines.{Reading}
 use Rattle.dup_names.specs.Words.{Word, Path}
 use Rattle.dup_names.specs.declared.value.Look.{Look}
+use Rattle.dup_template.specs.Good.{IsGood}
 use Rattle.dup_template.specs.declared.site.Parts.{Parts}
 use Rattle.dup_model.specs.Commits.{Commit, Refusal}
 use Rattle.dup_model.specs.Versions.{content, target_content}
@@ -21,8 +22,8 @@ use Rattle.dup_transcript.specs.Transcript.{commands, too_long}
 use Rattle.dup_machine.specs.World.Told.{Absent, Ahead, Found, NodeMade, NodeTaken, NoNode}
 use Rattle.dup_model.specs.Answers.How.{MissUnkept}
 use Rattle.dup_machine.specs.Presses.{commit_told}
-use Rattle.dup_transcript.specs.Texts.{told_text, settled_text, not_built_text}
-use Rattle.dup_transcript.specs.Commands.{Command, is_one_put}
+use Rattle.dup_transcript.specs.Texts.{bad_feed_text, told_text, settled_text, not_built_text}
+use Rattle.dup_transcript.specs.Commands.{Command, IsPutting}
 use Rattle.dup_transcript.specs.declared.command.Command.TheVariants as command
 
 -- the commits that were accepted; the version that was last settled, if any; the newest edition and its
@@ -86,6 +87,7 @@ after_command site s (command.Commit commit) = record s { commits = with_commit 
 after_command site s command.Settle = settled site s
 after_command site s (command.Node node capacity mode) = add_node s node
 after_command site s (command.Get node pass path) = s
+after_command site s (command.BadFeed why) = s
 after_command site s command.Blank = s
 after_command site s command.NotBuilt = s
 
@@ -117,6 +119,7 @@ play_answer site s at_line (command.Commit commit) = commit_text s (refused_behi
 play_answer site s at_line command.Settle = settle_text site s
 play_answer site s at_line (command.Node node capacity mode) = node_text s node
 play_answer site s at_line (command.Get node pass path) = get_text s node pass path
+play_answer site s at_line (command.BadFeed why) = bad_feed_text why
 play_answer site s at_line command.Blank = []
 play_answer site s at_line command.NotBuilt = not_built_text at_line
 
@@ -130,16 +133,11 @@ PlaysCommands site s at_line (command ∷ rest) last out =
 -- what is written for a script, behind a session and so many lines: the answers to its commands, and what is
 -- too long
 abbrev pub Writes : (Word → Command) → Parts → Session → ℕ → Reading → Word → Type 0
-Writes feed site s at_line input out = PlaysCommands site s at_line (commands feed input) (too_long input) out
-
--- a commit is one put, as each that is built
-abbrev pub IsPutting : Command → Type 0
-IsPutting (command.Commit commit) = is_one_put commit ≡ true
-IsPutting _ = Unit {0}
+Writes asks site s at_line input out = PlaysCommands site s at_line (commands asks input) (too_long input) out
 
 -- so is written just what the machine replies
 abbrev pub SessionsAreTheMachines : Type 0
 SessionsAreTheMachines = (site : Parts) (number : ℕ) (commands : List Command) (last out : Word) →
-    is_first_form site ≡ true → AllByRecursion IsPutting commands →
+    is_first_form site ≡ true → IsGood site → AllByRecursion IsPutting commands →
     PlaysCommands site first_session number commands last out
     ↔ MachinePlays site (limits_for commands) [] number commands last out

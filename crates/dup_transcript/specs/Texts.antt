@@ -3,7 +3,11 @@ use Rattle.std.specs.Prelude.{ℕ, [], ◌++◌, codes, length}
 use Rattle.std.specs.Fmt.{decimal}
 use Rattle.dup_names.specs.Lines.{line}
 use Rattle.dup_names.specs.Words.{Word}
-use Rattle.dup_model.specs.Commits.{Refusal, UnknownKind, UnknownField, NoRow, KindFull, JournalFull}
+use Rattle.dup_model.specs.Commits.{BadBody, JournalFull, KindFull, NoRow, Refusal, UnknownField}
+use Rattle.dup_model.specs.Commits.{UnknownKind, UnknownTemplate}
+use Rattle.dup_model.specs.declared.feed_refusal.FeedRefusal.{FeedRefusal}
+use Rattle.dup_model.specs.declared.feed_refusal.FeedRefusal.TheVariants.{NotJson, Shape, TooMany, NoMemory}
+use Rattle.dup_transcript.specs.BadSites.{rule_text}
 use Rattle.dup_model.specs.Editions.{Page}
 use Rattle.dup_machine.specs.World.{Counts, Told}
 use Rattle.dup_machine.specs.World.Told.{Committed, Refused, NodeMade, NodeTaken, NoNode, Found, Absent, Ahead}
@@ -14,6 +18,8 @@ refusal_text (UnknownField n) = line (codes "refused unknown field at " ++ decim
 refusal_text (NoRow n) = line (codes "refused no row at " ++ decimal n)
 refusal_text (KindFull n) = line (codes "refused kind full at " ++ decimal n)
 refusal_text (JournalFull commits bytes) = line (codes "refused journal full")
+refusal_text (UnknownTemplate n) = line (codes "refused unknown template at " ++ decimal n)
+refusal_text (BadBody n why) = line (codes "refused bad body at " ++ decimal n ++ codes ": " ++ rule_text why)
 
 -- a page of an edition: a line, and its bytes. Nothing is kept in a cache yet, so each is a miss
 abbrev pub found_text : ℕ → Page → Word
@@ -40,6 +46,17 @@ settled_text edition bundles counts =
     ++ codes " bundles " ++ decimal bundles
     ++ codes " expanded " ++ decimal counts.expanded ++ codes " joined " ++ decimal counts.joined
     ++ codes " kept " ++ decimal counts.kept)
+
+-- what is written of a feed message that says no commit; want of memory is none of its causes
+abbrev pub bad_feed_text : FeedRefusal → Word
+bad_feed_text NotJson = line (codes "refused not json")
+bad_feed_text (Shape n) = line (codes "refused shape " ++ decimal n)
+bad_feed_text (TooMany n) = line (codes "refused too many changes")
+bad_feed_text NoMemory = []
+
+-- what is written of a line that is no command
+abbrev pub bad_line_text : ℕ → Word
+bad_line_text number = line (codes "bad line " ++ decimal number)
 
 -- what is written of a line that isn't built
 abbrev pub not_built_text : ℕ → Word

@@ -9,7 +9,7 @@ use Rattle.dup_template.specs.Good.{IsGood}
 use Rattle.dup_template.specs.declared.site.Parts.{Parts}
 use Rattle.dup_transcript.specs.BadSites.{or_cause}
 use Rattle.dup_transcript.specs.FirstForm.{or_not_built}
-use Rattle.dup_transcript.specs.Commands.{Command, line_command}
+use Rattle.dup_transcript.specs.Commands.{Command, Feed, line_command, played_line}
 use Rattle.dup_model.specs.Commits.{Commit}
 use Rattle.dup_model.specs.Content.{Content}
 use Rattle.dup_transcript.specs.Inputs.{script, site_is_read, site_lines, site_text}
@@ -20,11 +20,11 @@ use Rattle.dup_transcript.specs.declared.task.Task.TheVariants.{Play, Check, Ren
 
 -- The texts that have grammars of their own, which stand above: the good site that a site text gives, or why
 -- it gives none;
--- the canonical text of a site; and what a feed message commands.
+-- the canonical text of a site; and what feed messages say.
 pub record Grammars : Type 0 where
   pub site : Word → Result Parts SiteTextRefusal
   pub canonical : Parts → Word
-  pub feed : Word → Command
+  pub feed : Feed
 
 -- the sites that texts give are good
 abbrev pub GivesGoodSites : Grammars → Type 0
@@ -53,24 +53,24 @@ too_long (Next text rest) = too_long rest
 too_long (LongLine number) = too_long_line number
 too_long LongInput = too_long_input
 
--- the commands of the lines that are read
+-- the commands of the lines that are read, each of which asks for one
 abbrev pub commands : (Word → Command) → Reading → List Command
-commands feed (Next text rest) = line_command feed text ∷ commands feed rest
-commands feed _ = []
+commands asks (Next text rest) = asks text ∷ commands asks rest
+commands asks _ = []
 
 -- what is written for a script behind a site text of so many lines: what the machine replies to its commands,
 -- and what is too long
 abbrev pub PlaysScript : (Word → Command) → Parts → ℕ → Reading → Word → Type 0
-PlaysScript feed site number input out =
-    let all = commands feed input in
+PlaysScript asks site number input out =
+    let all = commands asks input in
     MachinePlays site (limits_for all) [] number all (too_long input) out
 
 -- a site is played: `site ok`, and then the answers to the script
 abbrev pub Plays : (Word → Command) → Parts → Reading → ℕ → Word → Type 0
-Plays feed site input status out =
+Plays asks site input status out =
     (status ≡ ending input)
     × ((more : Word) × (out ≡ site_ok ++ more)
-    × PlaysScript feed site (site_lines input) (script input) more)
+    × PlaysScript asks site (site_lines input) (script input) more)
 
 -- what stands behind the answers of a render: the pages of the last content, where nothing is too long
 abbrev pub render_end : Content → Reading → Word
@@ -78,27 +78,27 @@ render_end c input = if nat_eq (ending input) 0 then rendered_pages c else too_l
 
 -- what a render writes for the lines that it reads, behind these commits and so many lines
 abbrev pub rendered : (Word → Command) → Parts → List Commit → ℕ → Reading → Word
-rendered feed site commits number input =
-    render_answers site commits number (commands feed input)
-    ++ render_end (last_content site commits (commands feed input)) input
+rendered asks site commits number input =
+    render_answers site commits number (commands asks input)
+    ++ render_end (last_content site commits (commands asks input)) input
 
 -- what is written for the lines behind the site text, from the site without rows
 abbrev pub RendersLines : (Word → Command) → Parts → ℕ → Reading → Word → Type 0
-RendersLines feed site number input out = out ≡ rendered feed site [] number input
+RendersLines asks site number input out = out ≡ rendered asks site [] number input
 
 -- a site is rendered: the answers to the lines behind its text, and then each page
 abbrev pub Renders : (Word → Command) → Parts → Reading → ℕ → Word → Type 0
-Renders feed site input status out = (status ≡ ending input)
-    × RendersLines feed site (site_lines input) (script input) out
+Renders asks site input status out = (status ≡ ending input)
+    × RendersLines asks site (site_lines input) (script input) out
 
 -- a site is checked: its canonical text, whatever stands behind the site text
 abbrev pub Checks : Word → ℕ → Word → Type 0
 Checks canonical status out = (status ≡ 0) × (out ≡ canonical)
 
 abbrev pub Does : Grammars → Task → Parts → Reading → ℕ → Word → Type 0
-Does g Play site input status out = Plays g.feed site input status out
+Does g Play site input status out = Plays (played_line g.feed) site input status out
 Does g Check site input status out = Checks (g.canonical site) status out
-Does g Render site input status out = Renders g.feed site input status out
+Does g Render site input status out = Renders (line_command g.feed) site input status out
 
 -- the site of a text that a task takes, or the line that is written in its place
 abbrev pub site_for : Grammars → Task → Word → Result Parts Word

@@ -1,12 +1,13 @@
-use dup_model::Mode;
+use dup_model::{FeedRefusal, Mode};
 use dup_names::Path;
 
-/// What a line of a script asks, where `C` is the form that commits have. What stands for a line that
-/// isn't built writes `not built`.
+/// What a line of a script asks, where `C` is the form that commits have. A message that says no commit
+/// is told why. What stands for a line that isn't built writes `not built`.
 #[derive(Debug, Drop, PartialEq, Eq)]
 pub enum Command<C> {
     Blank,
     Commit(C),
+    BadFeed(FeedRefusal),
     Settle,
     Node {
         number: u16,

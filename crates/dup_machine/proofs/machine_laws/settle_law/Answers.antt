@@ -1,5 +1,6 @@
 use Rattle.dup_machine.proofs.machine_laws.settle_law.Goals as goal
-use Rattle.dup_machine.proofs.Settling.{settle_reports, settle_resumes, nothing_is_done}
+use Rattle.dup_machine.proofs.Settling.{settle_reports, settle_resumes}
+use Rattle.dup_machine.proofs.NothingDone.{nothing_is_done}
 use Rattle.dup_machine.proofs.Publishing.{publish_ends}
 use Rattle.dup_machine.proofs.Ending.{settle_ends}
 

@@ -1,7 +1,7 @@
 use Rattle.std.proofs.Common.{refl, ap, ◌∙◌, Err, rules}
 use Rattle.dup_io.specs.Lines.{number_of}
 use Rattle.dup_io.specs.declared.lines.LineFault.{LineFault}
-use Rattle.dup_main.specs.Commands.{message_command}
+use Rattle.dup_main.specs.Commands.{command_of}
 use Rattle.dup_model.proofs.GoodSites.{good_jobs_fit}
 use Rattle.dup_transcript.specs.Transcript.{RendersLines}
 use Rattle.dup_main.proofs.CutScripts.{stops_in_script, stops_on_write}
@@ -15,8 +15,8 @@ lines-init g c = record {
   no_fault = c.requires.no_fault;
   read_faults = refl;
   write_faults = refl;
-  of_site = search rules;
-  answered = begun _ _ _ _ _ c.in_ok-content.ensures;
+  good = (c.args.site, c.requires.good, rw c.in_ok-content.ensures (record { frame = refl; bodies = refl }));
+  answered = begun _ _ _ _ _ (record { shows = c.in_ok-content.ensures; counts = c.empty.ensures });
 }
 
 pub returns-in_err-line-clause-stopped : goal.returns-in_err-line-clause-stopped
@@ -27,7 +27,7 @@ returns-in_err-line-clause-stopped g c =
     c.from_residual-in_err-line.ensures.1
 
 pub put_pages-requires : goal.put_pages-requires
-put_pages-requires g c = good_jobs_fit c.args.site _ c.requires.good c.lines.invariant.of_site
+put_pages-requires g c = let good = c.lines.invariant.good in good_jobs_fit good.0 _ good.1 good.2
 
 pub returns-in_default-clause-written : goal.returns-in_default-clause-written
 returns-in_default-clause-written g c = ended_by _ _ _ _ _ _ _ _ _ _ c.lines.invariant.answered (search rules) c.put_pages.ensures.written
@@ -38,11 +38,11 @@ lines-preserved g c = record {
   no_fault = search rules;
   read_faults = search rules;
   write_faults = search rules;
-  of_site = c.take.ensures.of_site c.args.site c.lines.invariant.of_site;
+  good = c.take.ensures.good c.lines.invariant.good;
   answered = more _ _ _ _ _ _ _ _ _ _ _ _ _ c.in-Some.line.bytes.items c.in_ok-text.text.items c.in_ok-command.command c.lines.invariant.answered
       (search rules) (search rules) c.in_ok-text.ensures.takes (search rules) (search rules) (search rules);
 }
 
 pub returns-in_err-put_all-clause-stopped : goal.returns-in_err-put_all-clause-stopped
 returns-in_err-put_all-clause-stopped g c =
-    stops_on_write _ (RendersLines message_command c.args.site (number_of c.args.lines.now)) _ (g.K.Sink.written c.args.out.now) _ c.from_residual-in_err-put_all.ensures.1
+    stops_on_write _ (RendersLines command_of c.args.site (number_of c.args.lines.now)) _ (g.K.Sink.written c.args.out.now) _ c.from_residual-in_err-put_all.ensures.1

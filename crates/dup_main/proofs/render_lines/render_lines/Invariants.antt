@@ -2,7 +2,7 @@ use Rattle.std.proofs.Common.{◌≡◌, ◌-◌}
 use Rattle.std.specs.Prelude.{None}
 use Rattle.dup_names.specs.Lines.{max_input}
 use Rattle.dup_io.specs.Lines.{to_read, reference_of, source_of, number_of, fault_of}
-use Rattle.dup_model.specs.Content.{IsOf}
+use Rattle.dup_model.specs.GoodSites.{IsGoodContent}
 use Rattle.dup_main.proofs.RenderSoFar.{SoFar}
 use Rattle.dup_main.proofs.render_lines.render_lines.Given as goal
 
@@ -12,9 +12,9 @@ invariant-lines g l = record {
   no_fault : fault_of l.lines ≡ None;
   read_faults : g.S.Source.faults (source_of l.lines) ≡ g.S.Source.faults (source_of l.fn.lines);
   write_faults : g.K.Sink.faults l.out ≡ g.K.Sink.faults l.fn.out;
-  of_site : IsOf l.fn.site l.content;
+  good : IsGoodContent l.taken.content;
   answered : SoFar l.fn.site (to_read g.S.Source.left l.fn.lines) (to_read g.S.Source.left l.lines) (g.K.Sink.written l.fn.out) (g.K.Sink.written l.out)
-      (number_of l.fn.lines) (number_of l.lines) l.content;
+      (number_of l.fn.lines) (number_of l.lines) l.taken;
 }
 
 abbrev pub decreases-lines : goal.decreases-lines

@@ -1,6 +1,6 @@
 use Rattle.std.proofs.Common.{ap, refl, rules, []}
 use Rattle.std.proofs.KnownBytes.{Appends-nil}
-use Rattle.dup_main.specs.Commands.{message_command}
+use Rattle.dup_main.specs.Commands.{command_of}
 use Rattle.dup_transcript.specs.RenderedPages.{rendered_pages}
 use Rattle.dup_transcript.specs.Transcript.{RendersLines}
 use Rattle.dup_transcript.specs.declared.task.Task.TheVariants.{Render}
@@ -19,7 +19,7 @@ put_pages-requires g c = first_fits c.deref.result.now c.in_ok-site.site _ c.in_
 
 pub returns-clause-written : goal.returns-clause-written
 returns-clause-written g c =
-    ended_without_script Render [] (RendersLines message_command) does_render _ _ (g.K.Sink.written c.args.out.now) (g.K.Sink.written c.args.out.now) _ _ c.in_ok-read.read.text.items c.deref.result.now
+    ended_without_script Render [] (RendersLines command_of) does_render _ _ (g.K.Sink.written c.args.out.now) (g.K.Sink.written c.args.out.now) _ _ c.in_ok-read.read.text.items c.deref.result.now
     (rendered_pages c.in_ok-content.content) c.in_ok-site.site
     (reads_from _ _ _ _ c.new-lines.ensures.ahead c.new-lines.ensures.first c.new-lines.ensures.taken)
     (without_script c.in_ok-read.read.has_script _ _ _ _ (search rules) c.in_ok-read.ensures.text)
@@ -27,7 +27,7 @@ returns-clause-written g c =
 
 pub returns-then-read-clause-written : goal.returns-then-read-clause-written
 returns-then-read-clause-written g c =
-    written_by_script Render [] (RendersLines message_command) does_render _ _ (g.K.Sink.written c.args.out.now) (g.K.Sink.written c.args.out.now) _ _ _ c.in_ok-read.read.text.items c.deref.result.now c.in_ok-site.site _
+    written_by_script Render [] (RendersLines command_of) does_render _ _ (g.K.Sink.written c.args.out.now) (g.K.Sink.written c.args.out.now) _ _ _ c.in_ok-read.read.text.items c.deref.result.now c.in_ok-site.site _
     (reads_from _ _ _ _ c.new-lines.ensures.ahead c.new-lines.ensures.first c.new-lines.ensures.taken)
     (with_script c.in_ok-read.read.has_script _ _ _ _ c.if-read.true c.in_ok-read.ensures.text)
     (count_with_script c.in_ok-read.read.has_script _ _ _ c.if-read.true c.new-lines.ensures.first c.in_ok-read.ensures.lines)
@@ -35,7 +35,7 @@ returns-then-read-clause-written g c =
 
 pub returns-then-read-clause-stopped : goal.returns-then-read-clause-stopped
 returns-then-read-clause-stopped g c =
-    stopped_by_script Render [] (RendersLines message_command) does_render _ _ (g.K.Sink.written c.args.out.now) (g.K.Sink.written c.args.out.now) _ _ _ c.in_ok-read.read.text.items c.deref.result.now c.in_ok-site.site _
+    stopped_by_script Render [] (RendersLines command_of) does_render _ _ (g.K.Sink.written c.args.out.now) (g.K.Sink.written c.args.out.now) _ _ _ c.in_ok-read.read.text.items c.deref.result.now c.in_ok-site.site _
     (reads_from _ _ _ _ c.new-lines.ensures.ahead c.new-lines.ensures.first c.new-lines.ensures.taken)
     (with_script c.in_ok-read.read.has_script _ _ _ _ c.if-read.true c.in_ok-read.ensures.text)
     (count_with_script c.in_ok-read.read.has_script _ _ _ c.if-read.true c.new-lines.ensures.first c.in_ok-read.ensures.lines)

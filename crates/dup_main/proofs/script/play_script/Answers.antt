@@ -5,7 +5,7 @@ use Rattle.dup_main.proofs.CutScripts.{stops_in_script, stops_on_write}
 use Rattle.dup_main.proofs.ScriptSoFar.{begun, more, ended, reaches, Acts}
 use Rattle.dup_main.proofs.SiteSoFar.{due_of}
 use Rattle.dup_io.specs.Lines.{number_of}
-use Rattle.dup_main.specs.Commands.{message_command}
+use Rattle.dup_main.specs.Commands.{played_of}
 use Rattle.dup_transcript.specs.Sessions.{Writes, first_session}
 use Rattle.dup_main.proofs.script.play_script.Goals as goal
 
@@ -42,11 +42,11 @@ lines-preserved g c = record {
   ready = c.in_ok-text.ensures.ready;
   versions = search rules;
   editions = search rules;
-  played = more _ _ _ _ _ _ _ _ _ _ _ _ _ c.in-Some.line.bytes.items c.in_ok-text.text.items c.in_ok-command.command c.lines.invariant.played
+  played = more _ _ _ _ _ _ _ _ _ _ _ _ _ c.in-Some.line.bytes.items c.in_ok-text.text.items c.playable.result c.lines.invariant.played
       (search rules) (search rules)
-      (subst (λ (p : Parts). Acts p c.lines.session c.act.new.self c.in-Some.line.number c.in_ok-command.command c.in_ok-text.text.items) c.lines.invariant.site c.in_ok-text.ensures.acts)
+      (subst (λ (p : Parts). Acts p c.lines.session c.act.new.self c.in-Some.line.number c.playable.result c.in_ok-text.text.items) c.lines.invariant.site c.in_ok-text.ensures.acts)
       (search rules) (search rules) (search rules);
 }
 
 pub returns-in_err-put_all-clause-stopped : goal.returns-in_err-put_all-clause-stopped
-returns-in_err-put_all-clause-stopped g c = stops_on_write _ (Writes message_command c.args.site first_session (number_of c.args.lines.now)) _ (g.K.Sink.written c.args.out.now) _ c.from_residual-in_err-put_all.ensures.1
+returns-in_err-put_all-clause-stopped g c = stops_on_write _ (Writes played_of c.args.site first_session (number_of c.args.lines.now)) _ (g.K.Sink.written c.args.out.now) _ c.from_residual-in_err-put_all.ensures.1

@@ -1,5 +1,5 @@
 use Rattle.dup_model.proofs.content_laws.commits_law.Goals as goal
-use Rattle.dup_model.proofs.Changes.{other_kinds_stay, other_rows_stay, put_makes_the_row, named_fields_are_set, other_fields_stay, remove_takes_the_row}
+use Rattle.dup_model.proofs.Changes.{body_is_replaced, other_bodies_stay, other_kinds_stay, other_rows_stay, put_makes_the_row, named_fields_are_set, other_fields_stay, remove_takes_the_row}
 
 pub returns-clause-kinds : goal.returns-clause-kinds
 returns-clause-kinds c = other_kinds_stay
@@ -18,3 +18,9 @@ returns-clause-unnamed c = other_fields_stay
 
 pub returns-clause-remove : goal.returns-clause-remove
 returns-clause-remove c = remove_takes_the_row
+
+pub returns-clause-body : goal.returns-clause-body
+returns-clause-body c = body_is_replaced
+
+pub returns-clause-bodies : goal.returns-clause-bodies
+returns-clause-bodies c = other_bodies_stay

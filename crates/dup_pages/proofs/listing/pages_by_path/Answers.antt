@@ -3,7 +3,7 @@ use Rattle.std.proofs.lemmas.List.{at_drop_all}
 use Rattle.std.specs.List.{flat_map}
 use Rattle.dup_names.specs.Words.{in_order}
 use Rattle.dup_template.specs.declared.site.Parts.{Parts}
-use Rattle.dup_model.specs.Frame.{Frame}
+use Rattle.dup_template.specs.Frame.{Frame}
 use Rattle.dup_model.specs.Pages.{pages_of}
 use Rattle.dup_pages.specs.Listing.{with_pages}
 use Rattle.dup_pages.proofs.InOrder.{by_path, with_pages_in_order}

@@ -1,7 +1,7 @@
 use Rattle.std.proofs.Common.{◌∙◌, ap, length, []}
 use Rattle.std.specs.Prelude.{replicate}
 use Rattle.dup_model.specs.Content.{Table}
-use Rattle.dup_model.specs.Frame.{frame_of, bodies_of}
+use Rattle.dup_template.specs.Frame.{frame_of, bodies_of}
 use Rattle.dup_template.specs.declared.site.Parts.{Parts}
 use Rattle.dup_records.proofs.Tables.{blanks}
 use Rattle.dup_records.proofs.content.Content.start.Goals as goal

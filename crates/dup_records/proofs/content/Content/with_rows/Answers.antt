@@ -2,7 +2,7 @@ use Rattle.std.proofs.Common.{◌∙◌, ap, sym, subst, length, length-set, map
 use Rattle.std.specs.Prelude.{slice_set}
 use Rattle.dup_model.specs.Content.{Content}
 use Rattle.dup_model.specs.Names.{fields_at}
-use Rattle.dup_model.specs.Frame.{frame_of, bodies_of}
+use Rattle.dup_template.specs.Frame.{frame_of, bodies_of}
 use Rattle.dup_records.specs.Fits.{HaveTexts, TablesFit}
 use Rattle.dup_records.proofs.Fits.{fit_set}
 use Rattle.dup_records.proofs.Tables.{as_many, replaced, still_rising}

@@ -1,0 +1,9 @@
+pub mod Walking
+pub mod Stocking
+pub mod Moving
+pub mod Notes
+pub mod Builds
+pub mod Joining
+pub mod Forgetting
+pub mod Graphs
+pub mod Contents

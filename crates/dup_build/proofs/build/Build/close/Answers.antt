@@ -1,0 +1,62 @@
+use Rattle.std.proofs.Common.{◌≡◌, Bool, true, cond, [], Some, None, length, sym, ap, subst, ◌∙◌}
+use Rattle.dup_model.specs.Pages.{live}
+use Rattle.dup_names.specs.Objects.{is_in}
+use Rattle.dup_model.specs.Touched.{without}
+use Rattle.dup_machine.specs.World.{Ended}
+use Rattle.dup_machine.specs.Builds.{Build, finished_in}
+use Rattle.dup_model.specs.Found.{waiting}
+use Rattle.dup_machine.specs.Works.{unjoined}
+use Rattle.dup_build.specs.Build.{work_in}
+use Rattle.dup_build.specs.Built.{Built, waiting_by, unjoined_by, finished}
+use Rattle.dup_build.proofs.Builds.{open_from, finished_open}
+use Rattle.std.proofs.Common.{inl, inr}
+use Rattle.std.proofs.lemmas.Bool.{true≢false, cases_Bool}
+use Rattle.dup_names.specs.declared.object.Obj.{Obj}
+use Rattle.dup_model.specs.Found.{found}
+use Rattle.dup_model.proofs.Finds.{found_is_live, done_unless_waiting}
+use Rattle.dup_walk.specs.OverReads.{HasReads}
+use Rattle.dup_build.specs.Stocked.{Stocked}
+use Rattle.dup_build.proofs.Graphs.{reads_left}
+use Rattle.dup_build.proofs.build.Build.close.Goals as goal
+
+pub forget-requires-clause-joined : goal.forget-requires-clause-joined
+forget-requires-clause-joined c =
+    let open_is : c.self.inside.is_open ≡ true = open_from c.self.inside.is_open (work_in c.self.inside) c.args.self.now.works.work (ap (λ (b : Built). b.works.work) c.self.view_is) c.requires.busy in
+    ap (λ (o : Bool). unjoined_by c.self.inside.stock.content (cond o (Some (work_in c.self.inside)) None)) (sym open_is)
+    ∙ ap (λ (b : Built). unjoined_by b.works.content b.works.work) c.self.view_is ∙ c.requires.joined
+
+pub returns-clause-told : goal.returns-clause-told
+returns-clause-told c =
+    let open_is : c.self.inside.is_open ≡ true = open_from c.self.inside.is_open (work_in c.self.inside) c.args.self.now.works.work (ap (λ (b : Built). b.works.work) c.self.view_is) c.requires.busy in
+    let work_is : c.args.self.now.works.work ≡ Some (work_in c.self.inside) = ap (λ (b : Built). b.works.work) (sym c.self.view_is) ∙ ap (λ (o : Bool). cond o (Some (work_in c.self.inside)) None) open_is in
+    let calm : waiting c.args.self.now.works.content c.self.inside.stock.done ≡ [] = ap (waiting_by c.args.self.now.works.content) (sym work_is) ∙ c.requires.calm in
+    let joined : unjoined c.args.self.now.works.content (work_in c.self.inside) ≡ [] = ap (unjoined_by c.args.self.now.works.content) (sym work_is) ∙ c.requires.joined in
+    let whole : finished c.args.self.now.works ≡ finished_in (work_in c.self.inside) [] [] c.args.self.now.works =
+    finished_open c.args.self.now.works (work_in c.self.inside) work_is ∙ (λ i. finished_in (work_in c.self.inside) (calm i) (joined i) c.args.self.now.works) in
+    let kept : c.in_ok-kept.kept ≡ length (without (is_in c.self.inside.once) (live c.args.self.now.works.content)) =
+    c.in_ok-kept.ensures ∙ ap (λ (b : Built). length (without (is_in c.self.inside.once) (live b.works.content))) c.self.view_is in
+    (λ i. Ended.Report (record { version = c.self.inside.version; expanded = c.self.inside.expanded; joined = c.self.inside.joined; kept = kept i }))
+    ∙ sym (ap (λ (x : Ended × Build). x.0) whole)
+
+pub invariant_of-self-2 : goal.invariant_of-self-2
+invariant_of-self-2 c =
+    let open_is : c.self.inside.is_open ≡ true = open_from c.self.inside.is_open (work_in c.self.inside) c.args.self.now.works.work (ap (λ (b : Built). b.works.work) c.self.view_is) c.requires.busy in
+    let work_is : c.args.self.now.works.work ≡ Some (work_in c.self.inside) = ap (λ (b : Built). b.works.work) (sym c.self.view_is) ∙ ap (λ (o : Bool). cond o (Some (work_in c.self.inside)) None) open_is in
+    let calm : waiting c.self.inside.stock.content c.self.inside.stock.done ≡ [] =
+    ap (λ (b : Built). waiting b.works.content c.self.inside.stock.done) c.self.view_is ∙ ap (waiting_by c.args.self.now.works.content) (sym work_is) ∙ c.requires.calm in
+    let all : (o : Obj) → is_in (found c.self.inside.stock.content c.self.inside.stock.done) o ≡ true → is_in c.self.inside.stock.done o ≡ true =
+    done_unless_waiting c.self.inside.stock.content c.self.inside.stock.done calm in
+    let lives : found c.self.inside.stock.content c.self.inside.stock.done ≡ live c.self.inside.stock.content = found_is_live c.self.inside.stock.content c.self.inside.stock.done all in
+    let ok = c.in_ok-gone.ensures.ok in
+    record {
+      is_done = ap (λ (s : Stocked). s.done) ok ∙ sym (ap (λ (s : Stocked). live s.content) ok);
+      is_looked = ap (λ (s : Stocked). s.looked) ok ∙ sym (ap (λ (s : Stocked). live s.content) ok);
+      reads = subst (λ (s : Stocked). HasReads s.content s.done c.drop_all.new.graph) (sym ok)
+          (reads_left c.self.inside.stock.content c.self.inside.stock.done (live c.self.inside.stock.content) c.self.inside.graph c.drop_all.new.graph
+          (λ o h. all o (ap (λ l. is_in l o) lives ∙ h))
+          (λ o h. c.drop_all.ensures o (ap (λ l. is_in l o) c.deref.ensures.value ∙ (elim (cases_Bool (is_in c.in_ok-gone.gone.items o)) [
+            | inr out ↦ out
+            | inl gone ↦ absurd (true≢false (sym (ap (λ l. is_in l o) lives ∙ h) ∙ c.in_ok-gone.ensures.gone o gone))
+          ])))
+          c.self.invariant.reads);
+    }

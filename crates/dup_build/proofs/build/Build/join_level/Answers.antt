@@ -1,0 +1,58 @@
+use Rattle.std.proofs.Common.{◌≡◌, ◌++◌, Bool, true, cond, Some, None, length, sym, ap, ◌∙◌}
+use Rattle.dup_names.specs.Order.{obj_cmp}
+use Rattle.dup_names.specs.Words.{in_order}
+use Rattle.dup_names.specs.Objects.{is_in}
+use Rattle.dup_model.specs.Touched.{without}
+use Rattle.dup_machine.specs.Works.{more, with_joined}
+use Rattle.std.specs.Option.{option_map}
+use Rattle.dup_build.specs.Build.{as_built, work_in, works_in}
+use Rattle.dup_build.specs.Built.{Built, level_by}
+use Rattle.dup_build.proofs.Builds.{open_from}
+use Rattle.dup_sets.proofs.Sets.{lacking_all, lacking_apart, all_back}
+use Rattle.dup_build.proofs.build.Build.join_level.Goals as goal
+
+pub add_all-requires : goal.add_all-requires
+add_all-requires c =
+    let fresh : c.deref.result.now ≡ without (is_in c.self.inside.once) c.args.level.now = c.deref.ensures.value ∙ c.in_ok-fresh.ensures in
+    λ x h. lacking_apart c.args.level.now c.self.inside.once x (ap (λ l. is_in l x) (sym fresh) ∙ h)
+
+pub join-requires-clause-level : goal.join-requires-clause-level
+join-requires-clause-level c =
+    let open_is : c.self.inside.is_open ≡ true = open_from c.self.inside.is_open (work_in c.self.inside) c.args.self.now.works.work (ap (λ (b : Built). b.works.work) c.self.view_is) c.requires.busy in
+    c.requires.level ∙ ap (λ (b : Built). level_by b.works.content b.works.work) (sym c.self.view_is)
+    ∙ ap (λ (o : Bool). level_by c.self.inside.stock.content (cond o (Some (work_in c.self.inside)) None)) open_is
+
+pub returns-in_default-clause-ok : goal.returns-in_default-clause-ok
+returns-in_default-clause-ok c =
+    let open_is : c.self.inside.is_open ≡ true = open_from c.self.inside.is_open (work_in c.self.inside) c.args.self.now.works.work (ap (λ (b : Built). b.works.work) c.self.view_is) c.requires.busy in
+    let fresh : c.deref.result.now ≡ without (is_in c.self.inside.once) c.args.level.now = c.deref.ensures.value ∙ c.in_ok-fresh.ensures in
+    let once : c.add_all.new.self ≡ in_order obj_cmp (c.args.level.now ++ c.self.inside.once) =
+    c.in_ok-add_all.ensures.ok ∙ ap (λ l. in_order obj_cmp (l ++ c.self.inside.once)) fresh ∙ lacking_all c.args.level.now c.self.inside.once in
+    let joined : c.saturating_add-self-inside.result ≡ more c.self.inside.joined (length c.args.level.now) = c.saturating_add-self-inside.ensures in
+    (λ i. record {
+      works = record (works_in c.self.inside) {
+        content = (c.in_default.ensures.ok i).content;
+        work = cond (open_is i) (Some (record (work_in c.self.inside) { done = (c.in_default.ensures.ok i).done; looked = (c.in_default.ensures.ok i).looked; once = once i; joined = joined i })) None;
+      };
+      pages = (as_built c.self.inside).pages;
+    })
+    ∙ sym (λ i. record {
+      works = record (works_in c.self.inside) { work = option_map (with_joined c.args.level.now) (cond (open_is i) (Some (work_in c.self.inside)) None) };
+      pages = (as_built c.self.inside).pages;
+    })
+    ∙ ap (λ (b : Built). let v : Built = record { works = record b.works { work = option_map (with_joined c.args.level.now) b.works.work }; pages = b.pages } in v) c.self.view_is
+
+pub returns-clause-err : goal.returns-clause-err
+returns-clause-err c =
+    let fresh : c.deref.result.now ≡ without (is_in c.self.inside.once) c.args.level.now = c.deref.ensures.value ∙ c.in_ok-fresh.ensures in
+    let once : c.remove_all.new.self ≡ c.self.inside.once =
+    c.remove_all.ensures ∙ ap (λ l. without (is_in l) c.add_all.new.self) (c.deref-2.ensures.value ∙ sym c.deref.ensures.value) ∙ ap (without (is_in c.deref.result.now)) c.in_ok-add_all.ensures.ok
+    ∙ all_back c.deref.result.now c.self.inside.once c.len.ensures.rising (λ x h. lacking_apart c.args.level.now c.self.inside.once x (ap (λ l. is_in l x) (sym fresh) ∙ h)) in
+    (λ i. record {
+      works = record (works_in c.self.inside) {
+        content = (c.in-Err.ensures.err i).content;
+        work = cond c.self.inside.is_open (Some (record (work_in c.self.inside) { done = (c.in-Err.ensures.err i).done; looked = (c.in-Err.ensures.err i).looked; once = once i })) None;
+      };
+      pages = (as_built c.self.inside).pages;
+    })
+    ∙ c.self.view_is

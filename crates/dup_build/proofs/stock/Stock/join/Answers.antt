@@ -1,0 +1,34 @@
+use Rattle.std.proofs.Common.{◌≡◌, ◌++◌, [], map, refl, sym, ap, ◌∙◌}
+use Rattle.dup_names.specs.Order.{obj_cmp}
+use Rattle.dup_names.specs.Words.{in_order}
+use Rattle.dup_model.specs.Looks.{look}
+use Rattle.dup_names.specs.Objects.{is_in}
+use Rattle.dup_model.specs.Found.{waiting}
+use Rattle.dup_sets.specs.Entries.{objs}
+use Rattle.dup_build.specs.Looked.{look_at, last_look}
+use Rattle.dup_build.specs.Stocked.{Stocked, waiting_in, level_in}
+use Rattle.dup_build.proofs.Joining.{level_apart, objs_looked, objs_of_values, joined_stock}
+use Rattle.dup_build.proofs.stock.Stock.join.Goals as goal
+
+pub add_looks-requires-clause-level : goal.add_looks-requires-clause-level
+add_looks-requires-clause-level c =
+    sym (objs_looked c.args.self.now.content c.args.level.now) ∙ ap (map (λ l. l.obj)) (sym c.requires.looks) ∙ objs_of_values (λ l. l.value) c.args.looks.now
+
+pub add_looks-requires-clause-apart : goal.add_looks-requires-clause-apart
+add_looks-requires-clause-apart c = λ x h.
+    ap (λ (s : Stocked). is_in s.looked x) c.self.view_is ∙ level_apart c.args.self.now x (ap (λ l. is_in l x) (sym c.requires.level) ∙ h)
+
+pub invariant_of-self-2 : goal.invariant_of-self-2
+invariant_of-self-2 c =
+    let calm : waiting c.self.inside.content (objs c.self.inside.nodes) ≡ [] = ap waiting_in c.self.view_is ∙ c.requires.calm in
+    joined_stock c.self.inside.content c.self.inside.nodes c.self.inside.looks c.self.inside.open c.self.invariant calm c.add_looks.new.looks
+    (record { found = c.self.inside.open.found; waiting = c.self.inside.open.waiting; unjoined = c.remove_all.new.self }) c.args.level.now
+    (c.requires.level ∙ ap level_in (sym c.self.view_is)) c.in_ok-add_looks.ensures.objs
+    (λ q. c.in_ok-add_looks.ensures.looks q ∙ ap (last_look q (look_at c.self.inside.looks q)) (c.requires.looks ∙ ap (λ (s : Stocked). map (look s.content) c.args.level.now) (sym c.self.view_is)))
+    refl refl c.remove_all.ensures
+
+pub returns-clause-ok : goal.returns-clause-ok
+returns-clause-ok c =
+    let looked : objs c.add_looks.new.looks ≡ in_order obj_cmp (c.args.level.now ++ c.args.self.now.looked) =
+    c.in_ok-add_looks.ensures.objs ∙ ap (λ (s : Stocked). in_order obj_cmp (c.args.level.now ++ s.looked)) c.self.view_is in
+    λ i. record { content = (c.self.view_is i).content; done = (c.self.view_is i).done; looked = looked i }

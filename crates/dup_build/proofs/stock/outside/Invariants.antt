@@ -1,0 +1,8 @@
+use Rattle.std.proofs.Common.{◌≡◌, take}
+use Rattle.dup_names.specs.Objects.{is_in}
+use Rattle.dup_model.specs.Touched.{without}
+use Rattle.dup_sets.specs.Entries.{objs}
+use Rattle.dup_build.proofs.stock.outside.Given as goal
+
+abbrev pub invariant-loop-obj : goal.invariant-loop-obj
+invariant-loop-obj g l = l.out.items ≡ without (is_in (objs l.table)) (take l.obj-index l.found)

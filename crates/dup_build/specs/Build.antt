@@ -1,0 +1,46 @@
+-- How a build is kept.
+use Rattle.std.specs.Prelude.{◌≡◌, Option, Some, None, List, [], if◌then◌else◌}
+use Rattle.std.specs.Option.{option_map}
+use Rattle.dup_names.specs.Words.{Path}
+use Rattle.dup_names.specs.declared.value.Look.{Look}
+use Rattle.dup_machine.specs.Builds.{Build}
+use Rattle.dup_machine.specs.World.{Work}
+use Rattle.dup_render.specs.declared.target.Target.{Target}
+use Rattle.dup_build.specs.declared.build.Build.TheInside.{Inside}
+use Rattle.dup_build.specs.Built.{Built, done_in, looked_in}
+use Rattle.dup_build.specs.Targets.{looks_of}
+use Rattle.dup_walk.specs.OverReads.{HasReads}
+
+-- the work, where one is open
+abbrev pub work_in : Inside → Work
+work_in a = record {
+  version = a.version;
+  last_handed = a.last_handed;
+  done = a.stock.done;
+  looked = a.stock.looked;
+  once = a.once;
+  expanded = a.expanded;
+  joined = a.joined;
+}
+
+abbrev pub works_in : Inside → Build
+works_in a = record {
+  version = a.version;
+  content = a.stock.content;
+  target = option_map (λ t. t.version) a.target;
+  work = if a.is_open then Some (work_in a) else None;
+}
+
+-- the looks of a target, if there is one
+abbrev pub pages_in : Option Target → List (Path × Look)
+pages_in None = []
+pages_in (Some t) = looks_of t
+
+abbrev pub as_built : Inside → Built
+as_built a = record { works = works_in a; pages = pages_in a.target }
+
+-- between two works the stock has all that is live at the target, and the graph has what is done
+pub record IsBuild (a : Inside) : Type 0 where
+  pub is_done : a.stock.done ≡ done_in (works_in a)
+  pub is_looked : a.stock.looked ≡ looked_in (works_in a)
+  pub reads : HasReads a.stock.content a.stock.done a.graph

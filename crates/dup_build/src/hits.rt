@@ -1,0 +1,52 @@
+// What changed items reach along the graph.
+ghost use Rattle.std.specs.Prelude.{◌≡◌, ◌<◌, IfOk};
+ghost use Rattle.dup_names.specs.declared.object.Obj.{Obj};
+ghost use Rattle.dup_names.specs.Objects.{is_in};
+ghost use Rattle.dup_graph.specs.Graph.{node_at};
+ghost use Rattle.dup_walk.specs.Affected.{has_changed, IsAffected};
+
+use dup_graph::{Graph, Steps};
+use dup_names::{Item, NoMemory};
+use dup_sets::ObjSet;
+use dup_walk::{affected, readers};
+use std::alloc::Global;
+use std::marker::Brand;
+use std::sync::ledger::{Blank, Ledger};
+
+/// The objects whose skeletons are stale, and those whose looks are.
+#[derive(Drop)]
+pub(crate) struct Hits {
+    pub(crate) dropped: ObjSet,
+    pub(crate) stale: ObjSet,
+}
+
+fn counted<L: Ledger>(
+    alloc: Global,
+    blank: Blank,
+    graph: &Graph,
+    changed: &[Item],
+) -> Result<Hits, NoMemory>
+    requires name { blank.name ≡ L.name }
+    requires parts { blank.parts ≡ L.parts }
+    requires some { 0 < blank.parts }
+    ensures dropped { IfOk result (λ hits. (o : Obj) →
+        is_in hits.dropped o ≡ has_changed changed.now (node_at graph.now o)) }
+    ensures stale { IfOk result (λ hits. IsAffected graph.now changed.now hits.stale) }
+{
+    let mut steps = Steps::<L>::new(blank);
+    let touched = readers(alloc, graph, changed, &mut steps)?;
+    let upward = affected(alloc, graph, changed, &mut steps)?;
+    let dropped = ObjSet::of(alloc, &touched)?;
+    let stale = ObjSet::of(alloc, &upward)?;
+    Ok(Hits { dropped, stale })
+}
+
+/// The objects that have a changed item, and those that are reached from them.
+pub(crate) fn hits_of(alloc: Global, graph: &Graph, changed: &[Item]) -> Result<Hits, NoMemory>
+    ensures dropped { IfOk result (λ hits. (o : Obj) →
+        is_in hits.dropped o ≡ has_changed changed.now (node_at graph.now o)) }
+    ensures stale { IfOk result (λ hits. IsAffected graph.now changed.now hits.stale) }
+{
+    let made = counted::<Brand>(alloc, Blank::new(1), graph, changed)?;
+    Ok(made)
+}

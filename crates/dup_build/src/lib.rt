@@ -1,0 +1,22 @@
+//! Works: the looks of a version from those of the last.
+#![tactic(auto)]
+
+mod answers;
+mod build;
+mod hits;
+mod job;
+mod keyed;
+mod levels;
+mod node;
+mod open;
+mod reach;
+mod reads;
+mod stock;
+mod values;
+
+pub use answers::{Begun, Finish, Joined, Put};
+pub use build::Build;
+pub use job::Job;
+
+#[cfg(test)]
+mod tests;

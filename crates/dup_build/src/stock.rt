@@ -1,0 +1,574 @@
+// What is kept of the objects of a content.
+ghost use Rattle.std.specs.Prelude.{◌≡◌, ◌↔◌, ◌∷◌, ◌++◌, [], false, Some, if◌then◌else◌, IsTrue, IfSome, IfOk, OnOk, OnErr, None, length, map};
+ghost use Rattle.dup_names.specs.Order.{obj_cmp};
+ghost use Rattle.dup_names.specs.Words.{in_order};
+ghost use Rattle.dup_names.specs.declared.object.Obj.{Obj};
+ghost use Rattle.dup_template.specs.Paths.{KeyOk};
+ghost use Rattle.std.specs.Option.{option_copied};
+ghost use Rattle.dup_model.specs.Content.{value};
+ghost use Rattle.dup_model.specs.Embeddings.{EmbedsEarlier};
+ghost use Rattle.dup_model.specs.Expansions.{IsGoodExpansion};
+ghost use Rattle.dup_model.specs.Jobs.{JobsFit};
+ghost use Rattle.dup_model.specs.ChangedItems.{KeysAreKeys};
+ghost use Rattle.dup_names.specs.Objects.{is_in, same_obj};
+ghost use Rattle.dup_model.specs.Touched.{without, touched, affected};
+ghost use Rattle.dup_model.specs.Found.{found, waiting};
+ghost use Rattle.dup_machine.specs.Works.{next_of};
+ghost use Rattle.dup_model.specs.Expansions.{stale as stale_note};
+ghost use Rattle.std.specs.List.{list_all};
+ghost use Rattle.dup_model.specs.Looks.{look};
+ghost use Rattle.dup_model.specs.Skeletons.{embeds};
+ghost use Rattle.dup_join.specs.Jobs.{look_of};
+ghost use Rattle.dup_model.specs.Pages.{live, page_looks};
+ghost use Rattle.dup_sets.specs.Entries.{at, objs};
+ghost use Rattle.dup_build.specs.Targets.{looks_of};
+ghost use Rattle.dup_build.specs.Looked.{look_at, last_look};
+ghost use Rattle.dup_build.specs.Nodes.{IsNode, below, children_of, ChildrenEarlier};
+ghost use Rattle.dup_machine.specs.Closed.{IsClosed};
+ghost use Rattle.dup_machine.specs.Reached.{Reached, opened};
+ghost use Rattle.dup_build.specs.Stocked.{waiting_in, unjoined_in, level_in};
+
+use crate::job::Job;
+use crate::node::{Node, Shown};
+use crate::open::Open;
+use crate::reach::reach;
+use crate::values::first_stale;
+use dup_join::JoinJob;
+use dup_lists::Listed;
+use dup_names::{Item, Key, Look, NoMemory, Obj, Path};
+use dup_pages::pages;
+use dup_records::Content;
+use dup_render::{Expanded, Target};
+use dup_sets::{ObjSet, Table};
+use dup_template::Value;
+use std::alloc::Global;
+use std::marker::Model;
+use std::sync::Arc;
+
+/// The skeletons of a content's objects that are done, the looks of those that have one, and what
+/// a work finds at the content and has left to do.
+#[derive(Drop)]
+pub(crate) struct Stock {
+    content: Content,
+    nodes: Table<Node>,
+    looks: Table<Shown>,
+    open: Open,
+}
+
+impl Model for Stock {
+    ghost use Rattle.std.specs.Coded.{codes};
+    ghost use Rattle.dup_template.specs.contracts.statement.Statement as statement;
+    ghost use Rattle.dup_sets.specs.Entries.{objs};
+    ghost use Rattle.dup_build.specs.Stocked.{Stocked};
+    ghost use Rattle.dup_build.specs.Stock.{IsStock};
+
+    ghost Value = { Stocked };
+
+    ghost coded = { Prim.hlevel (codes, statement.the_row.coded) };
+
+    ghost view = { λ a. record { content = a.content; done = objs a.nodes; looked = objs a.looks } };
+
+    ghost invariant = { λ a. IsStock a.content a.nodes a.looks a.open };
+}
+
+fn site_known(content: &Content)
+    ensures earlier { EmbedsEarlier content.now }
+    ensures fit { JobsFit content.now }
+{
+    content.site().parts();
+}
+
+fn key_known(key: &Option<Key>)
+    ensures { KeyOk key.now }
+{
+    match key {
+        None => {}
+        Some(key) => {
+            key.bytes();
+        }
+    }
+}
+
+pub(crate) fn expansion_known(expanded: &Expanded)
+    ensures { IsGoodExpansion expanded.now }
+{
+    expanded.notes();
+}
+
+// Those of these objects that aren't in a table.
+fn outside<T>(alloc: Global, found: &[Obj], table: &Table<T>) -> Result<Vec<Obj>, NoMemory>
+    ensures { IfOk result (λ made. made.items ≡ without (is_in (objs table.now)) found.now) }
+{
+    let mut out = Vec::new(alloc);
+    for obj in found {
+        if !table.has(obj) {
+            out.push(*obj)?;
+        }
+    }
+    Ok(out)
+}
+
+fn objs_shown(alloc: Global, pages: &[(Path, Obj)]) -> Result<Vec<Obj>, NoMemory>
+    ensures { IfOk result (λ made. made.items ≡ map (λ p. p.1) pages.now) }
+{
+    let mut objs = Vec::with_capacity(alloc, pages.len())?;
+    for page in pages {
+        objs.push(page.1)?;
+    }
+    Ok(objs)
+}
+
+fn node_children<'a>(nodes: &'a Table<Node>, obj: &Obj) -> &'a [Obj]
+    ensures { result.now ≡ children_of (at nodes.now obj.now) }
+{
+    match nodes.get(obj) {
+        None => &[],
+        Some(node) => node.children.items(),
+    }
+}
+
+fn all_in<T>(found: &[Obj], table: &Table<T>) -> bool
+    ensures { result ≡ list_all (is_in (objs table.now)) found.now }
+{
+    for obj in found {
+        if !table.has(obj) {
+            return false;
+        }
+    }
+    true
+}
+
+fn add_look(looks: &mut Table<Shown>, look: &Arc<Look, Global>) -> Result<(), NoMemory>
+    ensures objs { OnOk result (objs looks.new ≡ in_order obj_cmp (look.now.value.obj ∷ objs looks.old)) }
+    ensures looks { OnOk result ((q : Obj) → look_at looks.new q
+        ≡ (if same_obj q look.now.value.obj then Some look.now.value else look_at looks.old q)) }
+    ensures err { OnErr result (looks.new ≡ looks.old) }
+    ensures rising { in_order obj_cmp (objs looks.old) ≡ objs looks.old }
+{
+    looks.len();
+    let shown = Shown {
+        look: Arc::try_clone(look)?,
+    };
+    looks.add(look.obj, shown)
+}
+
+// Puts in the looks of a level, of which no object has one: all of them, or none.
+fn add_looks(
+    looks: &mut Table<Shown>,
+    level: &[Obj],
+    made: &[Arc<Look, Global>],
+) -> Result<(), NoMemory>
+    requires level { level.now ≡ map (λ l. l.value.obj) made.now }
+    requires apart { (x : Obj) → IsTrue (is_in level.now x) → is_in (objs looks.old) x ≡ false }
+    ensures objs { OnOk result (objs looks.new ≡ in_order obj_cmp (level.now ++ objs looks.old)) }
+    ensures looks { OnOk result ((q : Obj) → look_at looks.new q
+        ≡ last_look q (look_at looks.old q) (map (λ l. l.value) made.now)) }
+    ensures same_objs { OnErr result (objs looks.new ≡ objs looks.old) }
+    ensures same { OnErr result ((q : Obj) → look_at looks.new q ≡ look_at looks.old q) }
+{
+    looks.len();
+    for look in made {
+        let Err(refused) = add_look(looks, look) else {
+            continue;
+        };
+        looks.remove_all(level);
+        return Err(refused);
+    }
+    Ok(())
+}
+
+// Whether an object is in a table and isn't dropped from it.
+fn stays<T>(table: &Table<T>, dropped: &ObjSet, obj: &Obj) -> bool
+    ensures { result ≡ is_in (without (is_in dropped.now) (objs table.now)) obj.now }
+{
+    table.has(obj) && !dropped.contains(obj)
+}
+
+// Those of these objects that aren't in a table once some are dropped from it.
+fn outside_once<T>(
+    alloc: Global,
+    found: &[Obj],
+    table: &Table<T>,
+    dropped: &ObjSet,
+) -> Result<ObjSet, NoMemory>
+    requires { in_order obj_cmp found.now ≡ found.now }
+    ensures { IfOk result (λ made. made
+        ≡ without (is_in (without (is_in dropped.now) (objs table.now))) found.now) }
+{
+    let mut out = Vec::new(alloc);
+    for obj in found {
+        if !stays(table, dropped, obj) {
+            out.push(*obj)?;
+        }
+    }
+    let made = ObjSet::of(alloc, &out)?;
+    Ok(made)
+}
+
+// What a work finds at a content once some nodes and looks are dropped.
+fn survey(
+    alloc: Global,
+    content: &Content,
+    nodes: &Table<Node>,
+    dropped: &ObjSet,
+    looks: &Table<Shown>,
+    stale: &ObjSet,
+) -> Result<Open, NoMemory>
+    requires earlier { EmbedsEarlier content.now }
+    requires children { ChildrenEarlier nodes.now }
+    requires nodes { (o : Obj) → below nodes.now dropped.now o
+        ≡ opened content.now (without (is_in dropped.now) (objs nodes.now)) o }
+    ensures found { IfOk result (λ made. made.found
+        ≡ found content.now (without (is_in dropped.now) (objs nodes.now))) }
+    ensures waiting { IfOk result (λ made. made.waiting
+        ≡ waiting content.now (without (is_in dropped.now) (objs nodes.now))) }
+    ensures unjoined { IfOk result (λ made. made.unjoined
+        ≡ without (is_in (without (is_in stale.now) (objs looks.now)))
+        (found content.now (without (is_in dropped.now) (objs nodes.now)))) }
+{
+    let pages = pages(alloc, content)?;
+    let roots = objs_shown(alloc, &pages)?;
+    let none = ObjSet::new(alloc);
+    let found = reach(alloc, nodes, dropped, &none, &roots)?;
+    found.len();
+    let list = found.list(alloc)?;
+    let waiting = outside_once(alloc, &list, nodes, dropped)?;
+    let unjoined = outside_once(alloc, &list, looks, stale)?;
+    Ok(Open {
+        found,
+        waiting,
+        unjoined,
+    })
+}
+
+// Objects that are found; of these, those that aren't done, and those that have no look.
+#[derive(Drop)]
+struct News {
+    found: Listed<Obj>,
+    waiting: Listed<Obj>,
+    unjoined: Listed<Obj>,
+}
+
+impl Stock {
+    /// Nothing is done at a content.
+    pub(crate) fn start(alloc: Global, content: Content) -> Result<Stock, NoMemory>
+        requires { KeysAreKeys content }
+        ensures { IfOk result (λ made. made ≡ record { content = content; done = []; looked = [] }) }
+    {
+        site_known(&content);
+        let nodes = Table::new(alloc);
+        let looks = Table::new(alloc);
+        let none = ObjSet::new(alloc);
+        let open = survey(alloc, &content, &nodes, &none, &looks, &none)?;
+        Ok(Stock {
+            content,
+            nodes,
+            looks,
+            open,
+        })
+    }
+
+    /// Goes on to a content: the touched objects are no longer done, and the affected looks leave.
+    pub(crate) fn move_to(
+        &mut self,
+        alloc: Global,
+        content: &Content,
+        dropped: &ObjSet,
+        stale: &ObjSet,
+    ) -> Result<(), NoMemory>
+        requires frame { self.old.content.frame ≡ content.now.frame }
+        requires keys { KeysAreKeys content.now }
+        requires dropped { (o : Obj) → IsTrue (is_in self.old.done o) → is_in dropped.now o
+            ≡ touched self.old.content content.now o }
+        requires stale { (o : Obj) → IsTrue (is_in self.old.looked o) → is_in stale.now o
+            ≡ affected self.old.content content.now o }
+        ensures ok { OnOk result (self.new ≡ record {
+          content = content.now;
+          done = without (touched self.old.content content.now) self.old.done;
+          looked = without (affected self.old.content content.now) self.old.looked;
+        }) }
+        ensures err { OnErr result (self.new ≡ self.old) }
+    {
+        site_known(&self.content);
+        site_known(content);
+        let open = survey(alloc, content, &self.nodes, dropped, &self.looks, stale)?;
+        let dropped = dropped.list(alloc)?;
+        let stale = stale.list(alloc)?;
+        let content = content.copy(alloc)?;
+        self.nodes.remove_all(&dropped);
+        self.looks.remove_all(&stale);
+        self.content = content;
+        self.open = open;
+        Ok(())
+    }
+
+    /// The content.
+    pub(crate) fn content(&self) -> &Content
+        ensures value { result.now ≡ self.now.content }
+        ensures keys { KeysAreKeys self.now.content }
+        ensures earlier { EmbedsEarlier self.now.content }
+        ensures keyed { (o : Obj) → IsTrue (is_in self.now.done o) → KeyOk o.key }
+        ensures closed { IsClosed self.now.content self.now.done self.now.looked }
+    {
+        site_known(&self.content);
+        &self.content
+    }
+
+    /// How many objects wait.
+    pub(crate) fn waiting(&self) -> usize
+        ensures { result ≡ length (waiting_in self.now) }
+    {
+        self.open.waiting.len()
+    }
+
+    /// How many found objects have no look.
+    pub(crate) fn unjoined(&self) -> usize
+        ensures { result ≡ length (unjoined_in self.now) }
+    {
+        self.open.unjoined.len()
+    }
+
+    /// Whether an object waits.
+    pub(crate) fn waits(&self, obj: &Obj) -> bool
+        ensures { result ≡ is_in (waiting_in self.now) obj.now }
+    {
+        self.open.waiting.contains(obj)
+    }
+
+    /// The least waiting object after the last one, or the least of all.
+    pub(crate) fn next(&self, last: &Option<Obj>) -> Option<Obj>
+        ensures value { result ≡ next_of last.now (waiting_in self.now) }
+        ensures waits { IfSome result (λ obj. IsTrue (is_in (waiting_in self.now) obj)) }
+    {
+        self.open.waiting.next(last)
+    }
+
+    /// The job of a waiting object.
+    pub(crate) fn job(&self, alloc: Global, obj: &Obj) -> Result<Job, NoMemory>
+        requires { IsTrue (is_in (waiting_in self.now) obj.now) }
+        ensures obj { IfOk result (λ job. job.obj ≡ obj.now) }
+        ensures content { IfOk result (λ job. job.content ≡ self.now.content) }
+    {
+        site_known(&self.content);
+        let content = self.content.copy(alloc)?;
+        Ok(Job { content, obj: *obj })
+    }
+
+    /// The value of an item.
+    pub(crate) fn value(&self, alloc: Global, item: &Item) -> Result<Value, NoMemory>
+        ensures { IfOk result (λ made. made ≡ value self.now.content item.now) }
+    {
+        self.content.value(alloc, item)
+    }
+
+    /// The first note whose value isn't that of the content.
+    pub(crate) fn first_stale<'a>(&self, notes: &'a [(Item, Value)]) -> Option<&'a (Item, Value)>
+        ensures { option_copied result ≡ stale_note self.now.content notes.now }
+    {
+        first_stale(&self.content, notes)
+    }
+
+    // What is found once an object with this node is done.
+    fn news(&self, alloc: Global, node: &Node) -> Result<News, NoMemory>
+        ensures found { IfOk result (λ news. (g : Obj) → IsTrue (is_in news.found g)
+            ↔ Reached (opened self.now.content self.now.done)
+            (is_in (found self.now.content self.now.done)) node.now.children g) }
+        ensures waiting { IfOk result (λ news. news.waiting ≡ without (is_in self.now.done) news.found) }
+        ensures unjoined { IfOk result (λ news. news.unjoined ≡ without (is_in self.now.looked) news.found) }
+    {
+        site_known(&self.content);
+        let none = ObjSet::new(alloc);
+        let fresh = reach(
+            alloc,
+            &self.nodes,
+            &none,
+            &self.open.found,
+            node.children.items(),
+        )?;
+        let found = fresh.list(alloc)?;
+        let waiting = outside(alloc, &found, &self.nodes)?;
+        let unjoined = outside(alloc, &found, &self.looks)?;
+        Ok(News {
+            found: Listed::of(found),
+            waiting: Listed::of(waiting),
+            unjoined: Listed::of(unjoined),
+        })
+    }
+
+    // Puts in the node of a waiting object, and what is found by it.
+    fn put_in(&mut self, obj: Obj, node: Node, news: &News) -> Result<(), NoMemory>
+        requires waits { IsTrue (is_in (waiting_in self.old) obj) }
+        requires keyed { KeyOk obj.key }
+        requires node { IsNode self.old.content obj node }
+        requires found { (g : Obj) → IsTrue (is_in news.now.found g)
+            ↔ Reached (opened self.old.content self.old.done)
+            (is_in (found self.old.content self.old.done)) node.children g }
+        requires waiting { news.now.waiting ≡ without (is_in self.old.done) news.now.found }
+        requires unjoined { news.now.unjoined ≡ without (is_in self.old.looked) news.now.found }
+        ensures ok { OnOk result (self.new ≡ record self.old {
+          done = in_order obj_cmp (obj
+              ∷ self.old.done);
+        }) }
+        ensures err { OnErr result (self.new ≡ self.old) }
+    {
+        site_known(&self.content);
+        self.nodes.add(obj, node)?;
+        let Err(refused) = self.open.grow(
+            news.found.items(),
+            news.waiting.items(),
+            news.unjoined.items(),
+        )
+        else {
+            self.open.waiting.remove(&obj);
+            return Ok(());
+        };
+        self.nodes.remove(&obj);
+        Err(refused)
+    }
+
+    /// Keeps the node of a waiting object. The cost is that of what it embeds, and of what is found by
+    /// it.
+    pub(crate) fn keep(&mut self, alloc: Global, node: Node) -> Result<(), NoMemory>
+        requires waits { IsTrue (is_in (waiting_in self.old) node.expanded.value.obj) }
+        requires node { IsNode self.old.content node.expanded.value.obj node }
+        ensures ok { OnOk result (self.new ≡ record self.old {
+          done = in_order obj_cmp (node.expanded.value.obj ∷ self.old.done);
+        }) }
+        ensures err { OnErr result (self.new ≡ self.old) }
+    {
+        let obj = *node.expanded.obj();
+        key_known(&obj.key);
+        let news = self.news(alloc, &node)?;
+        self.put_in(obj, node, &news)
+    }
+
+    // Whether all that an object embeds has looks.
+    fn is_ready(&self, obj: &Obj) -> bool
+        ensures { result ≡ list_all (is_in self.now.looked) (opened self.now.content self.now.done obj.now) }
+    {
+        all_in(node_children(&self.nodes, obj), &self.looks)
+    }
+
+    /// The found objects without a look whose embedded objects all have looks.
+    pub(crate) fn level(&self, alloc: Global) -> Result<Vec<Obj>, NoMemory>
+        requires { waiting_in self.now ≡ [] }
+        ensures { IfOk result (λ level. level.items ≡ level_in self.now) }
+    {
+        let unjoined = self.open.unjoined.list(alloc)?;
+        let mut level = Vec::new(alloc);
+        for obj in &unjoined {
+            if self.is_ready(obj) {
+                level.push(*obj)?;
+            }
+        }
+        Ok(level)
+    }
+
+    // The looks of objects that have one.
+    fn looks_of(&self, alloc: Global, objs: &[Obj]) -> Result<Vec<Arc<Look, Global>>, NoMemory>
+        requires { (g : Obj) → IsTrue (is_in objs.now g) → IsTrue (is_in self.now.looked g) }
+        ensures { IfOk result (λ made. map (λ l. l.value) made.items ≡ map (look self.now.content) objs.now) }
+    {
+        let mut made = Vec::with_capacity(alloc, objs.len())?;
+        for obj in objs {
+            made.push(self.look(obj)?)?;
+        }
+        Ok(made)
+    }
+
+    /// What joins a done object, where all that it embeds has looks.
+    pub(crate) fn join_job(&self, alloc: Global, obj: &Obj) -> Result<JoinJob, NoMemory>
+        requires done { IsTrue (is_in self.now.done obj.now) }
+        requires looked { IsTrue (list_all (is_in self.now.looked) (embeds self.now.content obj.now)) }
+        ensures { IfOk result (λ job. look_of job ≡ look self.now.content obj.now) }
+    {
+        site_known(&self.content);
+        let node = self.nodes.get(obj).unwrap();
+        let parts = self.looks_of(alloc, node.children.items())?;
+        let skeleton = Arc::try_clone(node.expanded.skeleton())?;
+        let Obj { template, key } = *obj;
+        Ok(JoinJob {
+            obj: Obj { template, key },
+            skeleton,
+            parts: Listed::of(parts),
+        })
+    }
+
+    /// Puts in the looks of a level: all of them, or none. The cost is that of the level.
+    pub(crate) fn join(
+        &mut self,
+        level: &[Obj],
+        looks: &[Arc<Look, Global>],
+    ) -> Result<(), NoMemory>
+        requires calm { waiting_in self.old ≡ [] }
+        requires level { level.now ≡ level_in self.old }
+        requires looks { map (λ l. l.value) looks.now ≡ map (look self.old.content) level.now }
+        ensures ok { OnOk result (self.new
+            ≡ record self.old { looked = in_order obj_cmp (level.now ++ self.old.looked) }) }
+        ensures err { OnErr result (self.new ≡ self.old) }
+    {
+        add_looks(&mut self.looks, level, looks)?;
+        self.open.unjoined.remove_all(level);
+        Ok(())
+    }
+
+    /// Forgets the objects that aren't live, where all that is found has a look, and tells which. It
+    /// goes through all that is kept.
+    pub(crate) fn forget(&mut self, alloc: Global) -> Result<Vec<Obj>, NoMemory>
+        requires calm { waiting_in self.old ≡ [] }
+        requires joined { unjoined_in self.old ≡ [] }
+        ensures gone { IfOk result (λ gone. (o : Obj) →
+            IsTrue (is_in gone.items o) → is_in (found self.old.content self.old.done) o ≡ false) }
+        ensures ok { OnOk result (self.new
+            ≡ record self.old { done = live self.old.content; looked = live self.old.content }) }
+        ensures err { OnErr result (self.new ≡ self.old) }
+    {
+        site_known(&self.content);
+        self.nodes.len();
+        self.looks.len();
+        let known = self.nodes.list(alloc)?;
+        let gone = self.open.found.lacking(alloc, &known)?;
+        self.nodes.remove_all(&gone);
+        self.looks.remove_all(&gone);
+        Ok(gone)
+    }
+
+    // The look of an object that has one.
+    fn look(&self, obj: &Obj) -> Result<Arc<Look, Global>, NoMemory>
+        requires { IsTrue (is_in self.now.looked obj.now) }
+        ensures { IfOk result (λ made. made.value ≡ look self.now.content obj.now) }
+    {
+        let shown = self.looks.get(obj).unwrap();
+        Ok(Arc::try_clone(&shown.look)?)
+    }
+
+    /// How many live objects aren't in a set, where none waits.
+    pub(crate) fn kept(&self, alloc: Global, once: &ObjSet) -> Result<usize, NoMemory>
+        requires { waiting_in self.now ≡ [] }
+        ensures { IfOk result (λ kept. kept ≡ length (without (is_in once.now) (live self.now.content))) }
+    {
+        let found = self.open.found.list(alloc)?;
+        let kept = once.lacking(alloc, &found)?;
+        Ok(kept.as_slice().len())
+    }
+
+    /// The target of a version: the look of each page in path order, where all that is found has a
+    /// look.
+    pub(crate) fn target(&self, alloc: Global, version: u64) -> Result<Target, NoMemory>
+        requires { unjoined_in self.now ≡ [] }
+        ensures version { IfOk result (λ made. made.version ≡ version) }
+        ensures looks { IfOk result (λ made. looks_of made ≡ page_looks self.now.content) }
+    {
+        site_known(&self.content);
+        let pages = pages(alloc, &self.content)?;
+        let mut out = Vec::with_capacity(alloc, pages.len())?;
+        for page in &pages {
+            let look = self.look(&page.1)?;
+            out.push((page.0, look))?;
+        }
+        Ok(Target {
+            version,
+            pages: Listed::of(out),
+        })
+    }
+}

@@ -1,0 +1,30 @@
+//! Bundles: which changed paths are published next, together.
+//!
+//! A path is changed where the edition and the target have other looks there. `Changed` keeps the set
+//! of these paths from one publication to the next, so that no call compares the looks of all pages.
+#![tactic(auto)]
+
+mod bundling;
+mod changed;
+mod hints;
+mod laws;
+mod looks;
+mod needing;
+mod path_set;
+mod plan;
+mod reach;
+mod schedule;
+mod sorted;
+mod starting;
+
+pub use bundling::bundle;
+pub use changed::Changed;
+pub use dup_render::Target;
+pub use laws::schedule_law;
+pub use needing::needs;
+pub use plan::Plan;
+pub use schedule::Schedule;
+pub use sorted::SortedTarget;
+
+#[cfg(test)]
+mod tests;

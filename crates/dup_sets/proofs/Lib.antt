@@ -1,0 +1,3 @@
+pub mod Trees
+pub mod Sets
+pub mod Entries
