@@ -1,3 +1,4 @@
 pub mod Json
 pub mod Members
 pub mod Elements
+pub mod BodyLines

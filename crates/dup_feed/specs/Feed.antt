@@ -1,14 +1,16 @@
 -- What the bytes of a feed message say.
 use Rattle.std.specs.Prelude.{◌≡◌, ℕ, ◌+◌, Bool, codes, nat_eq, nat_le, nat_lt, if◌then◌else◌, List, [], ◌∷◌}
 use Rattle.std.specs.Prelude.{length}
-use Rattle.std.specs.Prelude.{Option, Some, None, option_map, option_and_then, Result, Ok, Err}
+use Rattle.std.specs.Prelude.{Option, Some, None, is_some, option_map, option_and_then, Result, Ok, Err}
 use Rattle.std.specs.Str.{is_utf8}
 use Rattle.dup_names.specs.Words.{Word}
 use Rattle.dup_names.specs.Grammar.{is_name, is_key}
 use Rattle.dup_names.specs.declared.limits.TheConstants.{MAX_CHANGES, MAX_TEXT_BYTES}
 use Rattle.dup_model.specs.Commits.{Commit}
 use Rattle.dup_model.specs.declared.edit.Edit.{Edit}
-use Rattle.dup_model.specs.declared.edit.Edit.TheVariants.{Put, Remove}
+use Rattle.dup_model.specs.declared.edit.Edit.TheVariants.{Put, Remove, Replace}
+use Rattle.dup_site.specs.SaidBody.{body_said}
+use Rattle.dup_template.specs.declared.statement.Statement.{Statement}
 use Rattle.serde_json.specs.Data.{Data, Items, no_items, item, Members, no_members, member}
 use Rattle.serde_json.specs.Find.{get, as_str, as_array, as_object}
 use Rattle.serde_json.specs.Read.{read}
@@ -62,11 +64,33 @@ remove_of d =
     option_and_then (λ kind. option_map (Remove kind) (word_at (codes "key") is_key d))
     (word_at (codes "remove") is_name d)
 
--- the one or the other, with no other members
+-- a line of a template's body
+abbrev pub line_of : Data → Option Word
+line_of d = option_and_then (where_so is_text) (as_str d)
+
+abbrev pub lines_of : Items → Option (List Word)
+lines_of no_items = Some []
+lines_of (item d ds) = option_and_then (λ line. option_map (λ lines. line ∷ lines) (lines_of ds)) (line_of d)
+
+-- what the lines of the array `body` say as the body of a template
+abbrev pub body_of : Data → Option (List Statement)
+body_of d = option_and_then body_said (option_and_then lines_of (option_and_then as_array (get (codes "body") d)))
+
+-- {"template": NAME, "body": [LINE, ..]}
+abbrev pub replace_of : Data → Option Edit
+replace_of d =
+    option_and_then (λ template. option_map (Replace template) (body_of d))
+    (word_at (codes "template") is_name d)
+
+-- has a member of this name
+abbrev pub has : Word → Data → Bool
+has name d = is_some (get name d)
+
+-- a put, a remove, or a template's new body, with no other members
 abbrev pub change_of : Data → Option Edit
 change_of d =
     if nat_eq (count_of (as_object d)) 3 then put_of d else
-    (if nat_eq (count_of (as_object d)) 2 then remove_of d else None)
+    (if nat_eq (count_of (as_object d)) 2 then (if has (codes "template") d then replace_of d else remove_of d) else None)
 
 -- the array of an object with the one member `changes`
 abbrev pub changes_of : Data → Option Items

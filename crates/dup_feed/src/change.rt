@@ -1,13 +1,17 @@
-ghost use Rattle.std.specs.Prelude.{◌≡◌, Some, None, IfOk, IfSome, IsTrue, codes, string_bytes, option_map};
+ghost use Rattle.std.specs.Prelude.{◌≡◌, ◌≤◌, Some, None, IfOk, IfSome, IsTrue, codes, string_bytes, option_map};
 ghost use Rattle.std.specs.Option.{option_copied};
-ghost use Rattle.serde_json.specs.View.{view, members_view};
+ghost use Rattle.serde_json.specs.View.{view, items_view, members_view};
 ghost use Rattle.serde_json.specs.Find.{get, as_object, as_str};
 ghost use Rattle.dup_names.specs.Grammar.{is_name, is_key};
+ghost use Rattle.dup_names.specs.declared.limits.TheConstants.{MAX_TEXT_BYTES};
+ghost use Rattle.dup_template.specs.BodyLines.{body_text, longest_of};
 ghost use Rattle.dup_model.specs.Commits.{rise};
 ghost use Rattle.dup_feed.specs.Feed as feed;
 
 use dup_names::{Key, Name, NoMemory, Text};
 use dup_records::Change;
+use dup_site::read_body;
+use dup_template::SharedBody;
 use serde_json::Value;
 use serde_json::value::Map;
 use std::alloc::Global;
@@ -100,6 +104,57 @@ fn put(alloc: Global, value: &Value) -> Result<Option<Change>, NoMemory>
     Ok(Change::put(kind, key, fields))
 }
 
+fn line(alloc: Global, value: &Value) -> Result<Option<Text>, NoMemory>
+    ensures { IfOk result (λ read. read ≡ feed.line_of (view value.now)) }
+{
+    let Some(word) = value.as_str() else {
+        return Ok(None);
+    };
+    Text::read(alloc, word.as_bytes())
+}
+
+fn lines(alloc: Global, elements: &[Value]) -> Result<Option<Vec<Text>>, NoMemory>
+    ensures { IfOk result (λ read. option_map (λ lines. lines.items) read ≡ feed.lines_of (items_view elements.now)) }
+{
+    let mut lines = Vec::with_capacity(alloc, elements.len())?;
+    for element in elements {
+        let Some(line) = line(alloc, element)? else {
+            return Ok(None);
+        };
+        lines.push(line)?;
+    }
+    Ok(Some(lines))
+}
+
+/// The body that the lines of a value's member say.
+fn body(alloc: Global, value: &Value) -> Result<Option<SharedBody>, NoMemory>
+    ensures value { IfOk result (λ read. read ≡ feed.body_of (view value.now)) }
+    ensures fits { IfOk result (λ read. IfSome read (λ body. longest_of (body_text body) ≤ MAX_TEXT_BYTES)) }
+{
+    let Some(found) = value.get("body") else {
+        return Ok(None);
+    };
+    let Some(elements) = found.as_array() else {
+        return Ok(None);
+    };
+    let Some(lines) = lines(alloc, elements.as_slice())? else {
+        return Ok(None);
+    };
+    read_body(alloc, &lines)
+}
+
+fn replace(alloc: Global, value: &Value) -> Result<Option<Change>, NoMemory>
+    ensures { IfOk result (λ read. read ≡ feed.replace_of (view value.now)) }
+{
+    let Some(template) = name_at(value, "template") else {
+        return Ok(None);
+    };
+    let Some(body) = body(alloc, value)? else {
+        return Ok(None);
+    };
+    Ok(Change::body(template, body))
+}
+
 fn remove(value: &Value) -> Option<Change>
     ensures { result ≡ feed.remove_of (view value.now) }
 {
@@ -116,12 +171,10 @@ fn remove(value: &Value) -> Option<Change>
 pub(crate) fn change(alloc: Global, value: &Value) -> Result<Option<Change>, NoMemory>
     ensures { IfOk result (λ read. read ≡ feed.change_of (view value.now)) }
 {
-    let members = count(value);
-    if members == 3 {
-        put(alloc, value)
-    } else if members == 2 {
-        Ok(remove(value))
-    } else {
-        Ok(None)
+    match count(value) {
+        3 => put(alloc, value),
+        2 if value.get("template").is_some() => replace(alloc, value),
+        2 => Ok(remove(value)),
+        _ => Ok(None),
     }
 }

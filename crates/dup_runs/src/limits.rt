@@ -71,7 +71,7 @@ fn a_text_has_4096_bytes_at_most(rt: HostRuntime) -> Result<(), Fail> {
     answers(&rt, &script, &wanted)?;
     let long = repeated(alloc, b'a', 4097)?;
     let line = put_line(alloc, b"event", b"e1", b"title", &long)?;
-    answers(&rt, &line, b"not built 9\n")
+    answers(&rt, &line, b"refused shape 1\n")
 }
 
 #[test]
@@ -97,7 +97,7 @@ found 1 1 miss 9
     answers(&rt, &script, wanted)?;
     let long = repeated(alloc, b'-', 49)?;
     let line = put_line(alloc, b"event", &long, b"title", b"")?;
-    answers(&rt, &line, b"not built 9\n")
+    answers(&rt, &line, b"refused shape 1\n")
 }
 
 #[test]
@@ -110,9 +110,9 @@ fn names_have_32_bytes_at_most(rt: HostRuntime) -> Result<(), Fail> {
     answers(&rt, &line, b"refused unknown field at 1\n")?;
     let long = repeated(alloc, b'z', 33)?;
     let line = put_line(alloc, &long, b"e1", b"title", b"")?;
-    answers(&rt, &line, b"not built 9\n")?;
+    answers(&rt, &line, b"refused shape 1\n")?;
     let line = put_line(alloc, b"event", b"e1", &long, b"")?;
-    answers(&rt, &line, b"not built 9\n")
+    answers(&rt, &line, b"refused shape 1\n")
 }
 
 // A request for a path of so many bytes has this answer.

@@ -154,19 +154,37 @@ fn commands_outside_the_table_are_not_built(rt: HostRuntime) -> Result<(), Fail>
 
 #[test]
 fn commits_of_another_form_are_not_built(rt: HostRuntime) -> Result<(), Fail> {
-    let lines: [&[u8]; 20] = [
+    let lines: [&[u8]; 5] = [
         b"commit",
         b"commit   ",
         b"commit\t{}",
-        b"commit {}",
-        b"commit [",
-        b"commit []",
-        b"commit \xff",
-        b"commit {\"changes\":[]}",
-        b"commit {\"changes\":{}}",
         b"commit {\"changes\":[{\"remove\":\"event\",\"key\":\"e1\"}]}",
         b"commit {\"changes\":[{\"put\":\"event\",\"key\":\"e1\",\"fields\":{}},{\"put\":\"event\",\"key\":\"e2\",\"fields\":{}}]}",
+    ];
+    each_answers(&rt, &lines, b"not built 9\n")
+}
+
+#[test]
+fn messages_that_are_no_json_are_refused(rt: HostRuntime) -> Result<(), Fail> {
+    let lines: [&[u8]; 3] = [b"commit [", b"commit e1", b"commit \xff"];
+    each_answers(&rt, &lines, b"refused not json\n")
+}
+
+#[test]
+fn messages_without_an_array_of_changes_are_refused(rt: HostRuntime) -> Result<(), Fail> {
+    let lines: [&[u8]; 5] = [
+        b"commit {}",
+        b"commit []",
+        b"commit {\"changes\":[]}",
+        b"commit {\"changes\":{}}",
         b"commit {\"changes\":[{\"put\":\"event\",\"key\":\"e1\",\"fields\":{}}],\"more\":1}",
+    ];
+    each_answers(&rt, &lines, b"refused shape 0\n")
+}
+
+#[test]
+fn elements_that_are_no_changes_are_refused(rt: HostRuntime) -> Result<(), Fail> {
+    let lines: [&[u8]; 9] = [
         b"commit {\"changes\":[{\"put\":\"event\",\"key\":\"e1\",\"fields\":{},\"more\":1}]}",
         b"commit {\"changes\":[{\"put\":\"event\",\"key\":\"e1\"}]}",
         b"commit {\"changes\":[{\"put\":\"event\",\"key\":\"e1\",\"fields\":{\"title\":1}}]}",
@@ -175,8 +193,9 @@ fn commits_of_another_form_are_not_built(rt: HostRuntime) -> Result<(), Fail> {
         b"commit {\"changes\":[{\"put\":\"event\",\"key\":\"\",\"fields\":{}}]}",
         b"commit {\"changes\":[{\"put\":\"2nd\",\"key\":\"e1\",\"fields\":{}}]}",
         b"commit {\"changes\":[{\"put\":\"event\",\"key\":\"e1\",\"fields\":[]}]}",
+        b"commit {\"changes\":[{\"template\":\"event_page\",\"body\":[\"end\"]}]}",
     ];
-    each_answers(&rt, &lines, b"not built 9\n")
+    each_answers(&rt, &lines, b"refused shape 1\n")
 }
 
 #[test]

@@ -176,28 +176,55 @@ commit {\"changes\":[{\"put\":\"event\",\"key\":\"e1\",\"fields\":{\"title\":\"<
 }
 
 #[test]
-fn lines_that_are_no_put_are_not_built(rt: HostRuntime) -> Result<(), Fail> {
-    let lines: [&[u8]; 11] = [
+fn other_lines_are_bad_lines(rt: HostRuntime) -> Result<(), Fail> {
+    let lines: [&[u8]; 6] = [
         b"hello",
         b"settle",
         b"node 1 4 update",
         b"get 1 0 /event/e1",
         b"commit",
-        b"commit {}",
-        b"commit e1",
-        b"commit {\"changes\":[]}",
-        b"commit {\"changes\":[{\"remove\":\"event\",\"key\":\"e1\"}]}",
-        b"commit {\"changes\":[{\"put\":\"event\",\"key\":\"e1\",\"fields\":{\"title\":\"a\"}},{\"put\":\"event\",\"key\":\"e2\",\"fields\":{\"title\":\"a\"}}]}",
         b"---",
     ];
     for line in lines {
         let input = joined(rt.alloc(), &[SITE, line])?;
-        ends(&rt, rendering(64), &input, 0, b"not built 9\n")?;
+        ends(&rt, rendering(64), &input, 0, b"bad line 9\n")?;
         let input = joined(rt.alloc(), &[SITE, E1, b"\n  # e1\n", line, b"\n#\n"])?;
-        let output = joined(rt.alloc(), &[b"not built 12\n", E1_PAGE])?;
+        let output = joined(rt.alloc(), &[b"bad line 12\n", E1_PAGE])?;
         ends(&rt, rendering(64), &input, 0, &output)?;
     }
     Ok(())
+}
+
+#[test]
+fn a_bad_message_is_refused_and_changes_nothing(rt: HostRuntime) -> Result<(), Fail> {
+    each_renders(
+        &rt,
+        &[
+            (b"commit e1", b"refused not json\n"),
+            (b"commit {}", b"refused shape 0\n"),
+            (b"commit {\"changes\":[]}", b"refused shape 0\n"),
+            (b"commit {\"changes\":[1]}", b"refused shape 1\n"),
+        ],
+    )
+}
+
+#[test]
+fn each_change_of_a_commit_is_taken(rt: HostRuntime) -> Result<(), Fail> {
+    each_renders(
+        &rt,
+        &[
+            (
+                b"commit {\"changes\":[{\"put\":\"event\",\"key\":\"e1\",\"fields\":{\"title\":\"a\"}},{\"put\":\"event\",\"key\":\"e2\",\"fields\":{}}]}
+commit {\"changes\":[{\"remove\":\"event\",\"key\":\"e2\"}]}
+",
+                b"page /event/e1 10\n<h1>a</h1>\n",
+            ),
+            (
+                b"commit {\"changes\":[{\"remove\":\"event\",\"key\":\"e1\"}]}",
+                b"refused no row at 1\n",
+            ),
+        ],
+    )
 }
 
 #[test]
@@ -229,10 +256,10 @@ fn a_line_that_is_too_long_ends_a_render_without_pages(rt: HostRuntime) -> Resul
     let alloc = rt.alloc();
     let long = repeated(alloc, b'x', 262_144)?;
     let input = joined(alloc, &[SITE, E1, &long])?;
-    let output = joined(alloc, &[b"not built 10\n", E1_PAGE])?;
+    let output = joined(alloc, &[b"bad line 10\n", E1_PAGE])?;
     ends(&rt, rendering(4096), &input, 0, &output)?;
     let input = joined(alloc, &[SITE, E1, b"hello\n", &long, b"x\nhello\n"])?;
-    let output = b"not built 10\ntoo long: line 11\n";
+    let output = b"bad line 10\ntoo long: line 11\n";
     ends(&rt, rendering(4096), &input, 7, output)?;
     let input = joined(alloc, &[b"kinds\n", &long, b"x\n---\n"])?;
     ends(&rt, rendering(4096), &input, 7, b"too long: line 2\n")
@@ -256,20 +283,20 @@ fn each_read_of_a_render_that_fails_is_told(rt: HostRuntime) -> Result<(), Fail>
     ends(&rt, failing(1, &[past], &[]), &input, 0, E1_PAGE)?;
     let input = joined(rt.alloc(), &[SITE, b"hello\n"])?;
     let last = input.len() as u64 + 1;
-    let output = b"not built 9\nread fault\n";
+    let output = b"bad line 9\nread fault\n";
     ends(&rt, failing(1, &[last], &[]), &input, 3, output)
 }
 
 #[test]
 fn each_write_of_a_render_that_fails_is_told(rt: HostRuntime) -> Result<(), Fail> {
     let input = joined(rt.alloc(), &[SITE, b"hello\n", E1])?;
-    let output = joined(rt.alloc(), &[b"not built 9\n", E1_PAGE])?;
+    let output = joined(rt.alloc(), &[b"bad line 9\n", E1_PAGE])?;
     for call in 0..output.len() {
         let fails = [call as u64 + 1];
         ends(&rt, failing(1, &[], &fails), &input, 4, &output[..call])?;
     }
     let fails = [output.len() as u64 + 1];
     ends(&rt, failing(1, &[], &fails), &input, 0, &output)?;
-    ends(&rt, failing(64, &[], &[2]), &input, 4, b"not built 9\n")?;
+    ends(&rt, failing(64, &[], &[2]), &input, 4, b"bad line 9\n")?;
     ends(&rt, failing(64, &[1], &[1]), &input, 4, b"")
 }
