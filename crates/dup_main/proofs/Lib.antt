@@ -14,3 +14,4 @@ pub mod WholeRuns
 pub mod WordLemmas
 pub mod Reached
 pub mod PlayedRuns
+pub mod TakenCommits
