@@ -6,8 +6,8 @@ use crate::counts::renewed_count;
 use crate::edition::Edition;
 use crate::publish::publish_rows;
 use crate::texts::{
-    absent_text, ahead_text, bad_feed_text, committed_text, found_text, no_node_text, node_text, not_built,
-    refusal_text, settled_text,
+    absent_text, ahead_text, bad_feed_text, committed_text, found_text, no_node_text, node_text,
+    not_built, refusal_text, settled_text,
 };
 use dup_model::Mode;
 use dup_names::{MAX_ROWS, NoMemory, Path};

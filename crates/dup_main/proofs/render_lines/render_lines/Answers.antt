@@ -16,7 +16,7 @@ lines-init g c = record {
   read_faults = refl;
   write_faults = refl;
   good = (c.args.site, c.requires.good, rw c.in_ok-content.ensures (record { frame = refl; bodies = refl }));
-  answered = begun _ _ _ _ _ (record { shows = c.in_ok-content.ensures; counts = c.empty.ensures });
+  answered = begun _ _ _ _ _ (record { shows = c.in_ok-content.ensures; counts = c.empty-size.ensures });
 }
 
 pub returns-in_err-line-clause-stopped : goal.returns-in_err-line-clause-stopped

@@ -42,9 +42,9 @@ lines-preserved g c = record {
   ready = c.in_ok-text.ensures.ready;
   versions = search rules;
   editions = search rules;
-  played = more _ _ _ _ _ _ _ _ _ _ _ _ _ c.in-Some.line.bytes.items c.in_ok-text.text.items c.playable.result c.lines.invariant.played
+  played = more _ _ _ _ _ _ _ _ _ _ _ _ _ c.in-Some.line.bytes.items c.in_ok-text.text.items c.playable-command.result c.lines.invariant.played
       (search rules) (search rules)
-      (subst (λ (p : Parts). Acts p c.lines.session c.act.new.self c.in-Some.line.number c.playable.result c.in_ok-text.text.items) c.lines.invariant.site c.in_ok-text.ensures.acts)
+      (subst (λ (p : Parts). Acts p c.lines.session c.act.new.self c.in-Some.line.number c.playable-command.result c.in_ok-text.text.items) c.lines.invariant.site c.in_ok-text.ensures.acts)
       (search rules) (search rules) (search rules);
 }
 
