@@ -1,4 +1,5 @@
 -- What the calls of a build answer, in the machine's words.
+use Rattle.std.specs.Prelude.{◌≡◌}
 use Rattle.dup_names.specs.declared.object.Obj.{Obj}
 use Rattle.dup_machine.specs.World as machine
 use Rattle.dup_build.specs.declared.answers.Begun.{Begun}
@@ -22,11 +23,12 @@ begun_told (begun.Same v) = machine.Begun.Same v
 begun_told (begun.Nothing v) = machine.Begun.Nothing v
 begun_told (begun.Work v n) = machine.Begun.Opened v n
 
--- of an expansion of this object
-abbrev pub put_told : Obj → Put → machine.Told
-put_told o put.Unasked = machine.Told.Unasked o
-put_told o (put.Stale item noted present) = machine.Told.Stale item noted present
-put_told o (put.Kept n) = machine.Told.Kept o n
+-- the answer to an expansion of this object says what the machine says, which knows no other site
+abbrev pub SaysPut : Obj → Put → machine.Told → Type 0
+SaysPut o put.Foreign told = ⊥
+SaysPut o put.Unasked told = machine.Told.Unasked o ≡ told
+SaysPut o (put.Stale item noted present) told = machine.Told.Stale item noted present ≡ told
+SaysPut o (put.Kept n) told = machine.Told.Kept o n ≡ told
 
 abbrev pub joined_told : Joined → machine.Joined
 joined_told joined.Idle = machine.Joined.Idle

@@ -16,6 +16,8 @@ pub enum Begun {
 /// What `put` answers.
 #[derive(Debug, Drop, PartialEq, Eq)]
 pub enum Put {
+    /// The expansion is of a site with another frame than the build's.
+    Foreign,
     /// The object doesn't wait.
     Unasked,
     /// The first note whose value isn't that of the work's content.

@@ -1,5 +1,5 @@
 // Works, one after the other.
-ghost use Rattle.std.specs.Prelude.{◌≡◌, ◌<◌, length, [], IsTrue, IsSome, IfSome, None, Some, IfOk, OnOk, OnErr, map};
+ghost use Rattle.std.specs.Prelude.{◌≡◌, ◌≢◌, ◌↔◌, ◌<◌, length, [], IsTrue, IsSome, IfSome, None, Some, IfOk, OnOk, OnErr, map};
 ghost use Rattle.std.specs.Option.{option_map};
 ghost use Rattle.dup_names.specs.declared.object.Obj.{Obj};
 ghost use Rattle.dup_model.specs.ChangedItems.{KeysAreKeys};
@@ -7,7 +7,7 @@ ghost use Rattle.dup_model.specs.Content.{start};
 ghost use Rattle.dup_model.specs.Looks.{look};
 ghost use Rattle.dup_names.specs.Objects.{is_in};
 ghost use Rattle.dup_model.specs.Touched.{touched, affected};
-ghost use Rattle.dup_build.specs.Answers.{begun_told, finish_told, joined_told, put_told};
+ghost use Rattle.dup_build.specs.Answers.{begun_told, finish_told, joined_told, SaysPut};
 ghost use Rattle.dup_machine.specs.Works.{with_joined};
 ghost use Rattle.dup_machine.specs.Works.{with_done};
 ghost use Rattle.dup_model.specs.Commits.{after};
@@ -282,8 +282,8 @@ impl Build {
         requires site { expanded.value.frame ≡ self.old.works.content.frame }
         requires waits { IsTrue (built.waits_by self.old.works.content self.old.works.work
             expanded.value.obj) }
-        ensures told { IfOk result (λ told. put_told expanded.value.obj told
-            ≡ (built.put expanded.value.obj expanded.value.notes self.old.works).0) }
+        ensures told { IfOk result (λ told. SaysPut expanded.value.obj told
+            (built.put expanded.value.obj expanded.value.notes self.old.works).0) }
         ensures build { OnOk result (self.new
             ≡ built.with_works
             (built.put expanded.value.obj expanded.value.notes self.old.works).1 self.old) }
@@ -304,15 +304,11 @@ impl Build {
         Ok(Put::Kept { waiting })
     }
 
-    /// Takes back an expansion, from whatever version of the site: it is kept where its object waits
-    /// and no note is stale.
-    ///
-    /// The cost is a look-up for each note and for what the object embeds, and a walk over what is found
-    /// by it.
-    pub fn put(&mut self, alloc: Global, expanded: Arc<Expanded, Global>) -> Result<Put, NoMemory>
-        requires { expanded.value.frame ≡ self.old.works.content.frame }
-        ensures told { IfOk result (λ told. put_told expanded.value.obj told
-            ≡ (built.put expanded.value.obj expanded.value.notes self.old.works).0) }
+    // Takes back an expansion of a site with the build's frame.
+    fn put_known(&mut self, alloc: Global, expanded: Arc<Expanded, Global>) -> Result<Put, NoMemory>
+        requires site { expanded.value.frame ≡ self.old.works.content.frame }
+        ensures told { IfOk result (λ told. SaysPut expanded.value.obj told
+            (built.put expanded.value.obj expanded.value.notes self.old.works).0) }
         ensures build { OnOk result (self.new
             ≡ built.with_works
             (built.put expanded.value.obj expanded.value.notes self.old.works).1 self.old) }
@@ -325,6 +321,32 @@ impl Build {
             return Ok(Put::Unasked);
         }
         self.put_asked(alloc, expanded)
+    }
+
+    /// Takes back an expansion, from whatever version of the site: it is kept where its object waits
+    /// and no note is stale. One of a site with another frame is refused first, and takes no memory.
+    ///
+    /// The cost is a comparison of the two sites' frames, a look-up for each note and for what the object
+    /// embeds, and a walk over what is found by it.
+    pub fn put(&mut self, alloc: Global, expanded: Arc<Expanded, Global>) -> Result<Put, NoMemory>
+        ensures foreign { IfOk result (λ told. (told ≡ Put.Foreign)
+            ↔ (expanded.value.frame ≢ self.old.works.content.frame)) }
+        ensures stays { expanded.value.frame ≢ self.old.works.content.frame → self.new ≡ self.old }
+
+        // The frames are the same.
+        ensures told { expanded.value.frame ≡ self.old.works.content.frame →
+            IfOk result (λ told. SaysPut expanded.value.obj told
+            (built.put expanded.value.obj expanded.value.notes self.old.works).0) }
+        ensures build { expanded.value.frame ≡ self.old.works.content.frame →
+            OnOk result (self.new
+            ≡ built.with_works
+            (built.put expanded.value.obj expanded.value.notes self.old.works).1 self.old) }
+        ensures err { OnErr result (self.new ≡ self.old) }
+    {
+        if !self.stock.has_frame_of(&expanded) {
+            return Ok(Put::Foreign);
+        }
+        self.put_known(alloc, expanded)
     }
 
     // Puts in the looks of the next level: all of them, or none.

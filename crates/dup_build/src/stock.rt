@@ -328,6 +328,13 @@ impl Stock {
         self.open.unjoined.len()
     }
 
+    /// Whether an expansion is of a site with the content's frame.
+    pub(crate) fn has_frame_of(&self, expanded: &Expanded) -> bool
+        ensures { IsTrue result ↔ (expanded.now.frame ≡ self.now.content.frame) }
+    {
+        expanded.site().has_frame_of(self.content.site())
+    }
+
     /// Whether an object waits.
     pub(crate) fn waits(&self, obj: &Obj) -> bool
         ensures { result ≡ is_in (waiting_in self.now) obj.now }

@@ -1,10 +1,10 @@
 ghost use Rattle.std.specs.Prelude.{◌≡◌, IfOk};
 
-use crate::{Begun, Build, Finish, Joined};
+use crate::{Begun, Build, Finish, Joined, Put};
 use dup_names::{Key, Meter, Name, Text};
 use dup_records::{Change, Commit, Content, apply};
-use dup_render::expand;
-use dup_samples::RESULTS_SITE;
+use dup_render::{Expanded, expand};
+use dup_samples::{EVENTS_SITE, RESULTS_SITE};
 use dup_site::read_site;
 use std::alloc::Global;
 use std::sync::Arc;
@@ -43,6 +43,17 @@ fn commit(alloc: Global, rows: &[Row]) -> Result<Commit, Fail> {
     Ok(commit)
 }
 
+// A build of a site, and the site's content without rows.
+fn start(alloc: Global, site: &[u8]) -> Result<(Build, Content), Fail>
+    ensures { IfOk result (λ made. made.0.works.content ≡ made.1) }
+{
+    let site = read_site(alloc, site).ok().ok_or("a good site")?;
+    let site = Arc::new(alloc, site)?;
+    let content = Content::start(alloc, Arc::try_clone(&site)?)?;
+    let build = Build::new(alloc, site)?;
+    Ok((build, content))
+}
+
 // Begins a work after one more commit; the content then, and how many wait.
 fn begin(
     alloc: Global,
@@ -76,6 +87,14 @@ fn expand_one(alloc: Global, build: &mut Build, meter: &mut Meter) -> Result<(),
     let made = Arc::new(alloc, made)?;
     build.put(alloc, made)?;
     Ok(())
+}
+
+// An expansion of what a build hands next.
+fn next_expanded(alloc: Global, build: &mut Build) -> Result<Arc<Expanded, Global>, Fail> {
+    let job = build.hand(alloc)?.ok_or("a job")?;
+    let mut meter = Meter::new();
+    let made = expand(alloc, &job.content, &job.obj, &mut meter)?;
+    Ok(Arc::new(alloc, made)?)
 }
 
 // As often as that.
@@ -147,8 +166,10 @@ fn work(
     ))
 }
 
+const EVENT: Row = ("event", "e1", &[("title", "100m")]);
+
 const RESULTS: &[Row] = &[
-    ("event", "e1", &[("title", "100m")]),
+    EVENT,
     (
         "result",
         "r1",
@@ -169,10 +190,7 @@ const RESULTS: &[Row] = &[
 #[test]
 fn a_work_does_what_its_change_affects(rt: HostRuntime) -> Result<(), Fail> {
     let alloc = rt.alloc();
-    let site = read_site(alloc, RESULTS_SITE).ok().ok_or("a good site")?;
-    let site = Arc::new(alloc, site)?;
-    let content = Content::start(alloc, Arc::try_clone(&site)?)?;
-    let mut build = Build::new(alloc, site)?;
+    let (mut build, content) = start(alloc, RESULTS_SITE)?;
     let (content, told) = work(&rt, alloc, &mut build, &content, 1, RESULTS)?;
     assert_eq!(&rt; told, (1, 4, 3, 1, 4, 4, 0), "at four rows");
     let rows: [Row; 1] = [("result", "r1", &[("who", "Ana")])];
@@ -182,5 +200,34 @@ fn a_work_does_what_its_change_affects(rt: HostRuntime) -> Result<(), Fail> {
     assert_eq!(&rt; told, (0, 0, 0, 0, 0, 0, 4), "at the same name");
     assert!(&rt; build.target().is_some());
     assert_eq!(&rt; build.work(), None, "once it is closed");
+    Ok(())
+}
+
+// An expansion over a site that has other kinds.
+fn foreign_expanded(alloc: Global) -> Result<Arc<Expanded, Global>, Fail> {
+    let (mut build, content) = start(alloc, EVENTS_SITE)?;
+    begin(alloc, &mut build, &content, 1, &[EVENT])?;
+    let made = next_expanded(alloc, &mut build)?;
+    Ok(made)
+}
+
+// What a build answers to it.
+fn put_foreign(alloc: Global, build: &mut Build) -> Result<Put, Fail> {
+    let made = foreign_expanded(alloc)?;
+    Ok(build.put(alloc, made)?)
+}
+
+#[test]
+fn an_expansion_of_another_site_is_refused_first(rt: HostRuntime) -> Result<(), Fail> {
+    let alloc = rt.alloc();
+    let (mut build, content) = start(alloc, RESULTS_SITE)?;
+    let told = put_foreign(alloc, &mut build)?;
+    assert_eq!(&rt; told, Put::Foreign, "with no work open");
+    begin(alloc, &mut build, &content, 1, RESULTS)?;
+    let told = put_foreign(alloc, &mut build)?;
+    assert_eq!(&rt; told, Put::Foreign, "in a work");
+    let made = next_expanded(alloc, &mut build)?;
+    let told = build.put(alloc, made)?;
+    assert_eq!(&rt; told, Put::Kept { waiting: 3 }, "of the site's own");
     Ok(())
 }

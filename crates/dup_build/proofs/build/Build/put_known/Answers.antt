@@ -7,7 +7,7 @@ use Rattle.dup_machine.specs.World.{Told}
 use Rattle.dup_machine.specs.Builds.{Build}
 use Rattle.dup_model.specs.Expansions.{Expansion}
 use Rattle.dup_build.proofs.Builds.{put_unasked, waits_open}
-use Rattle.dup_build.proofs.build.Build.put.Goals as goal
+use Rattle.dup_build.proofs.build.Build.put_known.Goals as goal
 
 pub returns-then-not-waits-clause-told : goal.returns-then-not-waits-clause-told
 returns-then-not-waits-clause-told c =
