@@ -40,6 +40,10 @@ open_from true w o is some = refl
 open_from false w None is some = absurd (true≢false (sym some))
 open_from false w (Some v) is some = absurd (none-some v is)
 
+pub closed_from : (b : Bool) (w : Work) → cond b (Some w) None ≡ None → b ≡ false
+closed_from true w is = absurd (none-some w (sym is))
+closed_from false w is = refl
+
 pub some_wait : (b : Build) (w : Work) (ws us : List Obj) → 0 < length ws → finished_in w ws us b ≡ (Ended.Waiting (length ws), b)
 some_wait b w [] us some = absurd (omega (arith, some))
 some_wait b w (o ∷ os) us some = refl

@@ -5,5 +5,7 @@ pub mod Notes
 pub mod Builds
 pub mod Joining
 pub mod Forgetting
+pub mod Pages
+pub mod Showing
 pub mod Graphs
 pub mod Contents

@@ -1,7 +1,10 @@
 -- What the calls of a build answer, in the machine's words.
-use Rattle.std.specs.Prelude.{◌≡◌}
+use Rattle.std.specs.Prelude.{◌≡◌, ⊤, List}
 use Rattle.dup_names.specs.declared.object.Obj.{Obj}
+use Rattle.dup_names.specs.declared.value.Look.{Look}
+use Rattle.dup_names.specs.Words.{Path}
 use Rattle.dup_machine.specs.World as machine
+use Rattle.dup_build.specs.Paths.{SameElsewhere}
 use Rattle.dup_build.specs.declared.answers.Begun.{Begun}
 use Rattle.dup_build.specs.declared.answers.Begun.TheVariants as begun
 use Rattle.dup_build.specs.declared.answers.Finish.{Finish}
@@ -15,8 +18,13 @@ abbrev pub finish_told : Finish → machine.Ended
 finish_told finish.Idle = machine.Ended.Idle
 finish_told (finish.Waiting n) = machine.Ended.Waiting n
 finish_told (finish.Unjoined n) = machine.Ended.Unjoined n
-finish_told (finish.Report v e j k) =
+finish_told (finish.Report v e j k touched) =
     machine.Ended.Report (record { version = v; expanded = e; joined = j; kept = k })
+
+-- away from the paths that a report names, the pages have the looks that they had
+abbrev pub TellsTouched : Finish → List (Path × Look) → List (Path × Look) → Type 0
+TellsTouched (finish.Report v e j k touched) old new = SameElsewhere touched old new
+TellsTouched _ old new = ⊤
 
 abbrev pub begun_told : Begun → machine.Begun
 begun_told (begun.Same v) = machine.Begun.Same v

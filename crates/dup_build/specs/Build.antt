@@ -1,14 +1,14 @@
 -- How a build is kept.
 use Rattle.std.specs.Prelude.{◌≡◌, Option, Some, None, List, [], if◌then◌else◌}
+use Rattle.std.specs.List.{All}
 use Rattle.std.specs.Option.{option_map}
-use Rattle.dup_names.specs.Words.{Path}
-use Rattle.dup_names.specs.declared.value.Look.{Look}
+use Rattle.dup_names.specs.declared.object.Obj.{Obj}
 use Rattle.dup_machine.specs.Builds.{Build}
 use Rattle.dup_machine.specs.World.{Work}
-use Rattle.dup_render.specs.declared.target.Target.{Target}
 use Rattle.dup_build.specs.declared.build.Build.TheInside.{Inside}
 use Rattle.dup_build.specs.Built.{Built, done_in, looked_in}
-use Rattle.dup_build.specs.Targets.{looks_of}
+use Rattle.dup_build.specs.Paths.{IsCurrent, looks_in}
+use Rattle.dup_build.specs.Targets.{pages_in}
 use Rattle.dup_walk.specs.OverReads.{HasReads}
 
 -- the work, where one is open
@@ -31,16 +31,17 @@ works_in a = record {
   work = if a.is_open then Some (work_in a) else None;
 }
 
--- the looks of a target, if there is one
-abbrev pub pages_in : Option Target → List (Path × Look)
-pages_in None = []
-pages_in (Some t) = looks_of t
-
 abbrev pub as_built : Inside → Built
 as_built a = record { works = works_in a; pages = pages_in a.target }
 
--- between two works the stock has all that is live at the target, and the graph has what is done
+-- what the open work joined
+abbrev pub once_in : Inside → List Obj
+once_in a = if a.is_open then a.once else []
+
+-- between two works the stock has all that is live at the target, and the graph has what is done; what the
+-- open work didn't join is shown as the target shows it
 pub record IsBuild (a : Inside) : Type 0 where
   pub is_done : a.stock.done ≡ done_in (works_in a)
   pub is_looked : a.stock.looked ≡ looked_in (works_in a)
   pub reads : HasReads a.stock.content a.stock.done a.graph
+  pub shown : All (IsCurrent a.stock.content a.stock.looked (once_in a)) (looks_in (pages_in a.target))

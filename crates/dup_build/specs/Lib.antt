@@ -3,6 +3,7 @@ pub mod Nodes
 pub mod Stock
 pub mod Looked
 pub mod Targets
+pub mod Paths
 pub mod Built
 pub mod Answers
 pub mod Build

@@ -1,5 +1,6 @@
 // What the calls of a build answer.
-use dup_names::Item;
+use dup_lists::Listed;
+use dup_names::{Item, Path};
 use dup_template::Value;
 
 /// What `begin` answers.
@@ -54,11 +55,13 @@ pub enum Finish {
     Waiting(u64),
     /// So many found objects have no look.
     Unjoined(u64),
-    /// The work is closed. `kept` counts the live objects that it never joined.
+    /// The work is closed. `kept` counts the live objects that it never joined. `touched` are the paths
+    /// of the pages that are new or gone since the last target, and of those whose object it joined.
     Report {
         version: u64,
         expanded: u64,
         joined: u64,
         kept: u64,
+        touched: Listed<Path>,
     },
 }

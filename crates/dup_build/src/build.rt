@@ -7,7 +7,7 @@ ghost use Rattle.dup_model.specs.Content.{start};
 ghost use Rattle.dup_model.specs.Looks.{look};
 ghost use Rattle.dup_names.specs.Objects.{is_in};
 ghost use Rattle.dup_model.specs.Touched.{touched, affected};
-ghost use Rattle.dup_build.specs.Answers.{begun_told, finish_told, joined_told, SaysPut};
+ghost use Rattle.dup_build.specs.Answers.{begun_told, finish_told, joined_told, SaysPut, TellsTouched};
 ghost use Rattle.dup_machine.specs.Works.{with_joined};
 ghost use Rattle.dup_machine.specs.Works.{with_done};
 ghost use Rattle.dup_model.specs.Commits.{after};
@@ -22,10 +22,12 @@ use crate::job::Job;
 use crate::keyed::commits_keyed;
 use crate::levels::level_looks;
 use crate::node::Node;
+use crate::paths::{pages_of, touched_paths};
 use crate::reads::{drop_all, put_node};
 use crate::stock::{Stock, expansion_known};
 use crate::values::copy_value;
 use dup_graph::Graph;
+use dup_lists::Listed;
 use dup_names::{Look, NoMemory, Obj};
 use dup_records::{Commit, Content, changed};
 use dup_render::{Expanded, Target};
@@ -422,11 +424,19 @@ impl Build {
         requires calm { built.waiting_by self.old.works.content self.old.works.work ≡ [] }
         requires joined { built.unjoined_by self.old.works.content self.old.works.work ≡ [] }
         ensures told { IfOk result (λ told. finish_told told ≡ (built.finished self.old.works).0) }
+        ensures touched { IfOk result (λ told. TellsTouched told self.old.pages self.new.pages) }
         ensures build { OnOk result (self.new ≡ built.closed (built.finished self.old.works) self.old) }
         ensures err { OnErr result (self.new ≡ self.old) }
     {
         let version = self.version;
         let target = self.stock.target(alloc, version)?;
+        self.stock.content();
+        let touched = touched_paths(
+            alloc,
+            pages_of(&self.target),
+            target.pages.items(),
+            &self.once,
+        )?;
         let kept = self.stock.kept(alloc, &self.once)? as u64;
         let gone = self.stock.forget(alloc)?;
         drop_all(&mut self.graph, &gone);
@@ -437,15 +447,17 @@ impl Build {
             expanded: self.expanded,
             joined: self.joined,
             kept,
+            touched: Listed::of(touched),
         })
     }
 
     /// Closes the open work, where all that is found has a look: its looks are the target.
     ///
-    /// The cost is that of listing the pages, and of one walk over what is kept; no bytes are compared or
-    /// copied.
+    /// The cost is that of listing the pages, of one walk over them and the last target's, side by side,
+    /// and of one over what is kept; no bytes are compared or copied.
     pub fn finish(&mut self, alloc: Global) -> Result<Finish, NoMemory>
         ensures told { IfOk result (λ told. finish_told told ≡ (built.finished self.old.works).0) }
+        ensures touched { IfOk result (λ told. TellsTouched told self.old.pages self.new.pages) }
         ensures build { OnOk result (self.new ≡ built.closed (built.finished self.old.works) self.old) }
         ensures err { OnErr result (self.new ≡ self.old) }
     {

@@ -9,6 +9,7 @@ mod keyed;
 mod levels;
 mod node;
 mod open;
+mod paths;
 mod reach;
 mod reads;
 mod stock;

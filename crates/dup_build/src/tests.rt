@@ -119,25 +119,26 @@ fn level(rt: &(impl Threads + Sync), alloc: Global, build: &mut Build) -> Result
     }
 }
 
-// What the work did: expanded, joined and kept.
-fn finish(alloc: Global, build: &mut Build) -> Result<(u64, u64, u64), Fail>
+// What the work did: expanded, joined and kept, and how many paths it touched.
+fn finish(alloc: Global, build: &mut Build) -> Result<(u64, u64, u64, usize), Fail>
     ensures { build.new.works.content ≡ build.old.works.content }
 {
     let Finish::Report {
         expanded,
         joined,
         kept,
+        touched,
         ..
     } = build.finish(alloc)?
     else {
         return Err(Fail::from("no report"));
     };
-    Ok((expanded, joined, kept))
+    Ok((expanded, joined, kept, touched.items().len()))
 }
 
 // A work after one more commit: how many wait, are expanded, are joined at the first level and at the
 // second, and what it reports.
-type Told = (u64, u64, u64, u64, u64, u64, u64);
+type Told = (u64, u64, u64, u64, u64, u64, u64, usize);
 
 fn work(
     rt: &(impl Threads + Sync),
@@ -156,13 +157,15 @@ fn work(
     let first = level(rt, alloc, build)?;
     let second = level(rt, alloc, build)?;
     let third = level(rt, alloc, build)?;
-    let (expanded, joined, kept) = finish(alloc, build)?;
+    let (expanded, joined, kept, touched) = finish(alloc, build)?;
     if third > 0 || expanded != meter.count() {
         return Err(Fail::from("another level, or another count"));
     }
     Ok((
         new,
-        (waiting, expanded, first, second, expanded, joined, kept),
+        (
+            waiting, expanded, first, second, expanded, joined, kept, touched,
+        ),
     ))
 }
 
@@ -192,12 +195,12 @@ fn a_work_does_what_its_change_affects(rt: HostRuntime) -> Result<(), Fail> {
     let alloc = rt.alloc();
     let (mut build, content) = start(alloc, RESULTS_SITE)?;
     let (content, told) = work(&rt, alloc, &mut build, &content, 1, RESULTS)?;
-    assert_eq!(&rt; told, (1, 4, 3, 1, 4, 4, 0), "at four rows");
+    assert_eq!(&rt; told, (1, 4, 3, 1, 4, 4, 0, 1), "at four rows");
     let rows: [Row; 1] = [("result", "r1", &[("who", "Ana")])];
     let (content, told) = work(&rt, alloc, &mut build, &content, 2, &rows)?;
-    assert_eq!(&rt; told, (1, 1, 1, 1, 1, 2, 2), "at one name");
+    assert_eq!(&rt; told, (1, 1, 1, 1, 1, 2, 2, 1), "at one name");
     let (_content, told) = work(&rt, alloc, &mut build, &content, 3, &rows)?;
-    assert_eq!(&rt; told, (0, 0, 0, 0, 0, 0, 4), "at the same name");
+    assert_eq!(&rt; told, (0, 0, 0, 0, 0, 0, 4, 0), "at the same name");
     assert!(&rt; build.target().is_some());
     assert_eq!(&rt; build.work(), None, "once it is closed");
     Ok(())

@@ -1,4 +1,6 @@
-use Rattle.std.proofs.Common.{◌≡◌, Bool, true, cond, [], Some, None, length, sym, ap, subst, ◌∙◌}
+use Rattle.std.proofs.Common.{◌≡◌, Bool, true, cond, List, [], Some, None, length, sym, ap, subst, ◌∙◌}
+use Rattle.std.specs.List.{All}
+use Rattle.dup_names.specs.Words.{Path}
 use Rattle.dup_model.specs.Pages.{live}
 use Rattle.dup_names.specs.Objects.{is_in}
 use Rattle.dup_model.specs.Touched.{without}
@@ -6,7 +8,10 @@ use Rattle.dup_machine.specs.World.{Ended}
 use Rattle.dup_machine.specs.Builds.{Build, finished_in}
 use Rattle.dup_model.specs.Found.{waiting}
 use Rattle.dup_machine.specs.Works.{unjoined}
-use Rattle.dup_build.specs.Build.{work_in}
+use Rattle.dup_build.specs.Build.{IsBuild, work_in}
+use Rattle.dup_build.specs.Paths.{IsCurrent, SameElsewhere, SameLooks, looks_in}
+use Rattle.dup_build.specs.Targets.{looks_by_path, looks_of, pages_in}
+use Rattle.dup_build.proofs.Showing.{current_same, target_current}
 use Rattle.dup_build.specs.Built.{Built, waiting_by, unjoined_by, finished}
 use Rattle.dup_build.proofs.Builds.{open_from, finished_open}
 use Rattle.std.proofs.Common.{inl, inr}
@@ -19,11 +24,40 @@ use Rattle.dup_build.specs.Stocked.{Stocked}
 use Rattle.dup_build.proofs.Graphs.{reads_left}
 use Rattle.dup_build.proofs.build.Build.close.Goals as goal
 
+pub forget-requires-clause-calm : goal.forget-requires-clause-calm
+forget-requires-clause-calm c =
+    let open_is : c.self.inside.is_open ≡ true = open_from c.self.inside.is_open (work_in c.self.inside) c.args.self.now.works.work (ap (λ (b : Built). b.works.work) c.self.view_is) c.requires.busy in
+    ap (λ (o : Bool). waiting_by c.self.inside.stock.content (cond o (Some (work_in c.self.inside)) None)) (sym open_is)
+    ∙ ap (λ (b : Built). waiting_by b.works.content b.works.work) c.self.view_is ∙ c.requires.calm
+
+pub invariant_of-self : goal.invariant_of-self
+invariant_of-self c = subst (λ (s : Stocked). IsBuild (record c.self.inside { stock = s })) (sym c.in_err-gone.ensures.err) c.self.invariant
+
 pub forget-requires-clause-joined : goal.forget-requires-clause-joined
 forget-requires-clause-joined c =
     let open_is : c.self.inside.is_open ≡ true = open_from c.self.inside.is_open (work_in c.self.inside) c.args.self.now.works.work (ap (λ (b : Built). b.works.work) c.self.view_is) c.requires.busy in
     ap (λ (o : Bool). unjoined_by c.self.inside.stock.content (cond o (Some (work_in c.self.inside)) None)) (sym open_is)
     ∙ ap (λ (b : Built). unjoined_by b.works.content b.works.work) c.self.view_is ∙ c.requires.joined
+
+pub touched_paths-requires : goal.touched_paths-requires
+touched_paths-requires c =
+    let open_is : c.self.inside.is_open ≡ true = open_from c.self.inside.is_open (work_in c.self.inside) c.args.self.now.works.work (ap (λ (b : Built). b.works.work) c.self.view_is) c.requires.busy in
+    let joined : without (is_in c.self.inside.stock.looked) (found c.self.inside.stock.content c.self.inside.stock.done) ≡ [] =
+    ap (λ (o : Bool). unjoined_by c.self.inside.stock.content (cond o (Some (work_in c.self.inside)) None)) (sym open_is)
+    ∙ ap (λ (b : Built). unjoined_by b.works.content b.works.work) c.self.view_is ∙ c.requires.joined in
+    let shown : All (IsCurrent c.self.inside.stock.content c.self.inside.stock.looked c.self.inside.once) (looks_in (pages_in c.self.inside.target)) =
+    subst (λ (o : Bool). All (IsCurrent c.self.inside.stock.content c.self.inside.stock.looked (cond o c.self.inside.once [])) (looks_in (pages_in c.self.inside.target))) open_is c.self.invariant.shown in
+    subst (λ pages. SameLooks c.self.inside.once pages (looks_by_path c.items.result.now)) (sym c.pages_of.ensures)
+    (subst (λ pages. SameLooks c.self.inside.once (pages_in c.self.inside.target) pages) (sym (ap looks_by_path c.items.ensures ∙ c.in_ok-target.ensures.looks))
+    (current_same c.self.inside.stock.content c.content.ensures.earlier c.self.inside.stock.done c.self.inside.stock.looked joined c.self.inside.once (pages_in c.self.inside.target) shown))
+
+pub returns-clause-touched : goal.returns-clause-touched
+returns-clause-touched c =
+    let old : looks_by_path c.pages_of.result.now ≡ c.args.self.now.pages = c.pages_of.ensures ∙ ap (λ (b : Built). b.pages) c.self.view_is in
+    let new : looks_by_path c.items.result.now ≡ looks_of c.in_ok-target.target = ap looks_by_path c.items.ensures in
+    subst (λ (ps : List Path). SameElsewhere ps c.args.self.now.pages (looks_of c.in_ok-target.target)) (sym c.of.ensures)
+    (subst (λ pages. SameElsewhere c.in_ok-touched.touched.items c.args.self.now.pages pages) new
+    (subst (λ pages. SameElsewhere c.in_ok-touched.touched.items pages (looks_by_path c.items.result.now)) old c.in_ok-touched.ensures))
 
 pub returns-clause-told : goal.returns-clause-told
 returns-clause-told c =
@@ -51,6 +85,9 @@ invariant_of-self-2 c =
     record {
       is_done = ap (λ (s : Stocked). s.done) ok ∙ sym (ap (λ (s : Stocked). live s.content) ok);
       is_looked = ap (λ (s : Stocked). s.looked) ok ∙ sym (ap (λ (s : Stocked). live s.content) ok);
+      shown = subst (λ (s : Stocked). All (IsCurrent s.content s.looked []) (looks_in (looks_of c.in_ok-target.target))) (sym ok)
+          (subst (λ pages. All (IsCurrent c.self.inside.stock.content (live c.self.inside.stock.content) []) (looks_in pages)) (sym c.in_ok-target.ensures.looks)
+          (target_current c.self.inside.stock.content (live c.self.inside.stock.content) []));
       reads = subst (λ (s : Stocked). HasReads s.content s.done c.drop_all.new.graph) (sym ok)
           (reads_left c.self.inside.stock.content c.self.inside.stock.done (live c.self.inside.stock.content) c.self.inside.graph c.drop_all.new.graph
           (λ o h. all o (ap (λ l. is_in l o) lives ∙ h))

@@ -1,13 +1,21 @@
-use Rattle.std.proofs.Common.{◌≡◌, ◌++◌, Bool, true, cond, Some, None, length, sym, ap, ◌∙◌}
+use Rattle.std.proofs.Common.{◌≡◌, ◌++◌, Bool, true, cond, List, [], Some, None, length, sym, ap, ◌∙◌, subst}
 use Rattle.dup_names.specs.Order.{obj_cmp}
 use Rattle.dup_names.specs.Words.{in_order}
 use Rattle.dup_names.specs.Objects.{is_in}
 use Rattle.dup_model.specs.Touched.{without}
 use Rattle.dup_machine.specs.Works.{more, with_joined}
+use Rattle.std.specs.List.{All}
 use Rattle.std.specs.Option.{option_map}
-use Rattle.dup_build.specs.Build.{as_built, work_in, works_in}
-use Rattle.dup_build.specs.Built.{Built, level_by}
+use Rattle.dup_names.specs.declared.object.Obj.{Obj}
+use Rattle.dup_names.specs.declared.value.Look.{Look}
+use Rattle.dup_walk.specs.OverReads.{HasReads}
+use Rattle.dup_build.specs.Build.{IsBuild, as_built, work_in, works_in}
+use Rattle.dup_build.specs.Built.{Built, done_by, level_by, looked_by}
+use Rattle.dup_build.specs.Paths.{IsCurrent, looks_in}
+use Rattle.dup_build.specs.Stocked.{Stocked}
+use Rattle.dup_build.specs.Targets.{pages_in}
 use Rattle.dup_build.proofs.Builds.{open_from}
+use Rattle.dup_build.proofs.Showing.{current_joined}
 use Rattle.dup_sets.proofs.Sets.{lacking_all, lacking_apart, all_back}
 use Rattle.dup_build.proofs.build.Build.join_level.Goals as goal
 
@@ -56,3 +64,36 @@ returns-clause-err c =
       pages = (as_built c.self.inside).pages;
     })
     ∙ c.self.view_is
+
+pub invariant_of-self : goal.invariant_of-self
+invariant_of-self c = subst (λ (os : List Obj). IsBuild (record c.self.inside { once = os })) (sym c.in_err-add_all.ensures.err) c.self.invariant
+
+pub invariant_of-self-in_default : goal.invariant_of-self-in_default
+invariant_of-self-in_default c =
+    let open_is : c.self.inside.is_open ≡ true = open_from c.self.inside.is_open (work_in c.self.inside) c.args.self.now.works.work (ap (λ (b : Built). b.works.work) c.self.view_is) c.requires.busy in
+    let fresh : c.deref.result.now ≡ without (is_in c.self.inside.once) c.args.level.now = c.deref.ensures.value ∙ c.in_ok-fresh.ensures in
+    let once : c.add_all.new.self ≡ in_order obj_cmp (c.args.level.now ++ c.self.inside.once) =
+    c.in_ok-add_all.ensures.ok ∙ ap (λ l. in_order obj_cmp (l ++ c.self.inside.once)) fresh ∙ lacking_all c.args.level.now c.self.inside.once in
+    let after = record c.self.inside { stock = c.join.new.self; once = c.add_all.new.self; joined = c.saturating_add-self-inside.result } in
+    let looks : List Look = looks_in (pages_in c.self.inside.target) in
+    let was : All (IsCurrent c.self.inside.stock.content c.self.inside.stock.looked c.self.inside.once) looks =
+    subst (λ (o : Bool). All (IsCurrent c.self.inside.stock.content c.self.inside.stock.looked (cond o c.self.inside.once [])) looks) open_is c.self.invariant.shown in
+    let now : All (IsCurrent c.self.inside.stock.content (in_order obj_cmp (c.args.level.now ++ c.self.inside.stock.looked)) c.add_all.new.self) looks =
+    subst (λ (os : List Obj). All (IsCurrent c.self.inside.stock.content (in_order obj_cmp (c.args.level.now ++ c.self.inside.stock.looked)) os) looks) (sym once)
+    (current_joined c.self.inside.stock.content c.self.inside.stock.looked c.self.inside.once c.args.level.now looks was) in
+    record {
+      is_done = ap (λ (o : Bool). done_by c.join.new.self.content (option_map (λ t. t.version) c.self.inside.target) (cond o (Some (work_in after)) None)) (sym open_is);
+      is_looked = ap (λ (o : Bool). looked_by c.join.new.self.content (option_map (λ t. t.version) c.self.inside.target) (cond o (Some (work_in after)) None)) (sym open_is);
+      reads = subst (λ (s : Stocked). HasReads s.content s.done c.self.inside.graph) (sym c.in_default.ensures.ok) c.self.invariant.reads;
+      shown = subst (λ (s : Stocked). All (IsCurrent s.content s.looked (cond c.self.inside.is_open c.add_all.new.self [])) looks) (sym c.in_default.ensures.ok)
+          (subst (λ (o : Bool). All (IsCurrent c.self.inside.stock.content (in_order obj_cmp (c.args.level.now ++ c.self.inside.stock.looked)) (cond o c.add_all.new.self [])) looks) (sym open_is) now);
+    }
+
+pub invariant_of-self-2 : goal.invariant_of-self-2
+invariant_of-self-2 c =
+    let fresh : c.deref.result.now ≡ without (is_in c.self.inside.once) c.args.level.now = c.deref.ensures.value ∙ c.in_ok-fresh.ensures in
+    let once : c.remove_all.new.self ≡ c.self.inside.once =
+    c.remove_all.ensures ∙ ap (λ l. without (is_in l) c.add_all.new.self) (c.deref-2.ensures.value ∙ sym c.deref.ensures.value) ∙ ap (without (is_in c.deref.result.now)) c.in_ok-add_all.ensures.ok
+    ∙ all_back c.deref.result.now c.self.inside.once c.len.ensures.rising (λ x h. lacking_apart c.args.level.now c.self.inside.once x (ap (λ l. is_in l x) (sym fresh) ∙ h)) in
+    subst (λ (s : Stocked). IsBuild (record c.self.inside { stock = s; once = c.remove_all.new.self })) (sym c.in-Err.ensures.err)
+    (subst (λ (os : List Obj). IsBuild (record c.self.inside { once = os })) (sym once) c.self.invariant)

@@ -1,4 +1,5 @@
 use Rattle.std.proofs.Common.{◌≡◌, ◌∷◌, Bool, true, false, cond, Some, None, map, sym, ap, ◌∙◌, subst}
+use Rattle.std.specs.List.{All}
 use Rattle.std.specs.Option.{option_map}
 use Rattle.dup_names.specs.Order.{obj_cmp}
 use Rattle.dup_names.specs.Words.{in_order}
@@ -12,7 +13,9 @@ use Rattle.dup_machine.proofs.Closing.{without_parts}
 use Rattle.dup_walk.specs.OverReads.{HasReads}
 use Rattle.std.specs.FinMap as fin
 use Rattle.dup_build.specs.Nodes.{IsNode}
-use Rattle.dup_build.specs.Build.{IsBuild, work_in}
+use Rattle.dup_build.specs.Build.{IsBuild, once_in, work_in}
+use Rattle.dup_build.specs.Paths.{IsCurrent, looks_in}
+use Rattle.dup_build.specs.Targets.{pages_in}
 use Rattle.dup_build.specs.Built.{Built, done_by, looked_by}
 use Rattle.dup_build.specs.Stocked.{Stocked}
 use Rattle.dup_build.proofs.Builds.{open_from, waits_open}
@@ -30,6 +33,7 @@ invariant_of-self-in_default c =
     record {
       is_done = ap (λ (o : Bool). done_by c.keep.new.self.content (option_map (λ t. t.version) c.self.inside.target) (cond o (Some (work_in after)) None)) (sym open_is);
       is_looked = ap (λ (o : Bool). looked_by c.keep.new.self.content (option_map (λ t. t.version) c.self.inside.target) (cond o (Some (work_in after)) None)) (sym open_is);
+      shown = subst (λ (s : Stocked). All (IsCurrent s.content s.looked (once_in c.self.inside)) (looks_in (pages_in c.self.inside.target))) (sym c.in_default.ensures.ok) c.self.invariant.shown;
       reads = subst (λ (s : Stocked). HasReads s.content s.done c.put_node.new.graph) (sym c.in_default.ensures.ok)
           (subst (λ (o : Obj). HasReads c.self.inside.stock.content (in_order obj_cmp (o ∷ c.self.inside.stock.done)) c.put_node.new.graph) one
           (subst (λ (g : Nodes). HasReads c.self.inside.stock.content (in_order obj_cmp (c.obj.result.now ∷ c.self.inside.stock.done)) g) (sym c.in_ok-put_node.ensures.ok)
@@ -50,6 +54,7 @@ invariant_of-self-2 c =
     subst (λ (s : Stocked). IsBuild (record c.self.inside { stock = s; graph = c.drop_obj.new.self })) (sym c.in-Err.ensures.err) (record {
       is_done = c.self.invariant.is_done;
       is_looked = c.self.invariant.is_looked;
+      shown = c.self.invariant.shown;
       reads = subst (λ (g : Nodes). HasReads c.self.inside.stock.content c.self.inside.stock.done g)
           (sym (c.drop_obj.ensures.rest ∙ ap (λ (g : Nodes). fin.remove g c.obj.result.now) c.in_ok-put_node.ensures.ok))
           (reads_back c.self.inside.stock.content c.self.inside.stock.done c.obj.result.now kept c.self.inside.graph out c.self.invariant.reads);

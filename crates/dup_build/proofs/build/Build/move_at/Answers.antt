@@ -1,9 +1,13 @@
 use Rattle.std.proofs.Common.{◌≡◌, Bool, true, cond, Some, None, sym, ap, ◌∙◌, subst}
+use Rattle.std.specs.List.{All}
 use Rattle.std.specs.Option.{option_map}
 use Rattle.dup_names.specs.Objects.{is_in}
 use Rattle.dup_model.specs.Touched.{touched, affected}
 use Rattle.dup_walk.specs.OverReads.{HasReads}
-use Rattle.dup_build.specs.Build.{IsBuild, work_in}
+use Rattle.dup_build.specs.Build.{IsBuild, once_in, work_in}
+use Rattle.dup_build.specs.Paths.{IsCurrent, looks_in}
+use Rattle.dup_build.specs.Targets.{pages_in}
+use Rattle.dup_build.proofs.Showing.{current_moved}
 use Rattle.dup_build.specs.Built.{Built, done_by, done_in, looked_by, looked_in}
 use Rattle.dup_build.specs.Stocked.{Stocked}
 use Rattle.dup_build.proofs.Builds.{open_from}
@@ -25,6 +29,9 @@ invariant_of-self-2 c =
     record {
       is_done = ap (λ (o : Bool). done_by c.move_to.new.self.content (option_map (λ t. t.version) c.self.inside.target) (cond o (Some (work_in after)) None)) (sym open_is);
       is_looked = ap (λ (o : Bool). looked_by c.move_to.new.self.content (option_map (λ t. t.version) c.self.inside.target) (cond o (Some (work_in after)) None)) (sym open_is);
+      shown = subst (λ (s : Stocked). All (IsCurrent s.content s.looked (once_in c.self.inside)) (looks_in (pages_in c.self.inside.target))) (sym c.in_ok-move_to.ensures.ok)
+          (current_moved c.self.inside.stock.content c.args.content.now (ap (λ (b : Built). b.works.content.frame) c.self.view_is ∙ c.requires.frame) c.self.inside.stock.looked (once_in c.self.inside)
+          (looks_in (pages_in c.self.inside.target)) c.self.invariant.shown);
       reads = subst (λ (s : Stocked). HasReads s.content s.done c.drop_all.new.graph) (sym c.in_ok-move_to.ensures.ok)
           (reads_moved c.self.inside.stock.content c.args.content.now
           (ap (λ (b : Built). b.works.content.frame) c.self.view_is ∙ c.requires.frame)
