@@ -6,6 +6,8 @@ pub mod Builds
 pub mod Joining
 pub mod Forgetting
 pub mod Pages
+pub mod Rising
+pub mod Touching
 pub mod Showing
 pub mod Graphs
 pub mod Contents

@@ -1,10 +1,13 @@
 -- The looks of the last target that are still its objects' own.
-use Rattle.std.proofs.Common.{◌≡◌, Bool, true, false, ◌||◌, List, [], ◌∷◌, ◌++◌, map, refl, sym, ap, ◌∙◌}
-use Rattle.std.specs.List.{All, Contains}
-use Rattle.std.proofs.lemmas.List.Elements.{All-cons, All-contains, All-map, All-nil, All-weaker}
+use Rattle.std.proofs.Common.{◌≡◌, Bool, true, false, not, cond, ◌||◌, ◌&&◌, List, [], ◌∷◌, ◌++◌, map, Option, Some, None, subst, refl, sym, ap, ◌∙◌}
+use Rattle.std.specs.List.{All}
+use Rattle.std.specs.FinMap as fin
+use Rattle.std.specs.Ordering.{eq_by_cmp}
+use Rattle.std.proofs.lemmas.List.Elements.{All-cons, All-head, All-map, All-nil, All-tail, All-weaker}
 use Rattle.std.proofs.lemmas.List.Folds.{list_any-append}
 use Rattle.std.proofs.lemmas.Bool.{true≢false, or_left}
-use Rattle.dup_names.specs.Order.{obj_cmp}
+use Rattle.std.proofs.lemmas.Option.{none-some, same_Some}
+use Rattle.dup_names.specs.Order.{obj_cmp, text_cmp}
 use Rattle.dup_names.specs.Words.{Path, in_order}
 use Rattle.dup_names.specs.declared.object.Obj.{Obj}
 use Rattle.dup_names.specs.declared.value.Look.{Look}
@@ -17,13 +20,13 @@ use Rattle.dup_model.specs.Found.{found}
 use Rattle.dup_model.specs.Found.Found.{of_page}
 use Rattle.dup_model.proofs.FoundWords.{found_is_found}
 use Rattle.dup_model.proofs.Reached.{or_right}
-use Rattle.dup_names.proofs.ObjectOrder.{obj_itself}
+use Rattle.dup_names.proofs.ObjectOrder.{obj_itself, obj_same}
 use Rattle.dup_model.specs.Touched.{without, affected}
 use Rattle.dup_model.proofs.Incremental.{unaffected_same}
 use Rattle.dup_model.proofs.Earlier.{in_ordered}
 use Rattle.dup_machine.proofs.Closing.{without_parts}
 use Rattle.dup_build.proofs.Forgetting.{all_passed}
-use Rattle.dup_build.specs.Paths.{IsCurrent, SameLooks, looks_in}
+use Rattle.dup_build.specs.Paths.{AreTouched, IsCurrent, SameElsewhere, is_touched, looks_in}
 
 -- on the way to the next content
 pub current_moved : (a b : Content) → a.frame ≡ b.frame → (looked once : List Obj) (ls : List Look) → All (IsCurrent a looked once) ls → All (IsCurrent b (without (affected a b) looked) once) ls
@@ -61,6 +64,15 @@ target_current c looked once =
     All-map (IsCurrent c looked once) (λ (p : Path × Look). p.1) (page_looks c)
     (All-map (λ (p : Path × Look). IsCurrent c looked once p.1) (λ (p : Path × Obj). (p.0, look c p.1)) (pages c) (λ k d below inside out. refl))
 
+-- what holds of each look holds of that at a path
+look_found : (P : Look → Type 0) (p : Path) (es : List (Path × Look)) (l : Look) → All P (looks_in es) → fin.find text_cmp p es ≡ Some l → P l
+look_found P p [] l all is = absurd (none-some l is)
+look_found P p (e ∷ es) l all is = by_path (eq_by_cmp text_cmp p e.0) (λ later. look_found P p es l (All-tail P e.1 (looks_in es) all) later) is
+  where
+    by_path : (b : Bool) → (fin.find text_cmp p es ≡ Some l → P l) → cond b (Some e.1) (fin.find text_cmp p es) ≡ Some l → P l
+    by_path true later is = subst P (same_Some e.1 l is) (All-head P e.1 (looks_in es) all)
+    by_path false later is = later is
+
 in_itself : (ps : List (Path × Obj)) → All (λ (p : Path × Obj). is_in (map (λ (p : Path × Obj). p.1) ps) p.1 ≡ true) ps
 in_itself [] = All-nil (λ (p : Path × Obj). is_in [] p.1 ≡ true)
 in_itself (p ∷ ps) =
@@ -83,9 +95,23 @@ module _ (c : Content) (earlier : EmbedsEarlier c) (done looked : List Obj) (joi
       (All-map (λ (p : Path × Look). (p.1 ≡ look c p.1.obj) × (is_in looked p.1.obj ≡ true)) (λ (p : Path × Obj). (p.0, look c p.1)) (pages c)
       (λ k d below. (refl, pages_looked k d below)))
 
-  -- what the work didn't join has one look in both targets
-  pub current_same : (once : List Obj) (old : List (Path × Look)) → All (IsCurrent c looked once) (looks_in old) → SameLooks once old (page_looks c)
-  current_same once old all l m in_old in_new one out =
-      let now : (m ≡ look c m.obj) × (is_in looked m.obj ≡ true) = All-contains (λ (m : Look). (m ≡ look c m.obj) × (is_in looked m.obj ≡ true)) (looks_in (page_looks c)) m looks_looked in_new in
-      let was : IsCurrent c looked once l = All-contains (IsCurrent c looked once) (looks_in old) l all in_old in
-      was (ap (is_in looked) one ∙ now.1) (ap (is_in once) one ∙ out) ∙ ap (look c) one ∙ sym now.0
+  -- away from the touched paths the looks are the same
+  pub current_elsewhere : (once : List Obj) (old : List (Path × Look)) (paths : List Path) → All (IsCurrent c looked once) (looks_in old) → AreTouched once old (page_looks c) paths → SameElsewhere paths old (page_looks c)
+  current_elsewhere once old paths all touched p out = by_looks (fin.find text_cmp p old) refl (fin.find text_cmp p (page_looks c)) refl (sym (touched p) ∙ out)
+    where
+      by_tests : (l m : Look) → IsCurrent c looked once l → (m ≡ look c m.obj) × (is_in looked m.obj ≡ true) → (s : Bool) → same_obj l.obj m.obj ≡ s → (i : Bool) → is_in once m.obj ≡ i → not (s && not i) ≡ false → l ≡ m
+      by_tests l m was now true same false away is =
+          let one : l.obj ≡ m.obj = obj_same l.obj m.obj same in
+          was (ap (is_in looked) one ∙ now.1) (ap (is_in once) one ∙ away) ∙ ap (look c) one ∙ sym now.0
+      by_tests l m was now true same true inside is = absurd (true≢false is)
+      by_tests l m was now false other i at is = absurd (true≢false is)
+
+      by_looks : (o : Option Look) → fin.find text_cmp p old ≡ o → (q : Option Look) → fin.find text_cmp p (page_looks c) ≡ q → is_touched once o q ≡ false → o ≡ q
+      by_looks None at_old None at_new is = refl
+      by_looks None at_old (Some m) at_new is = absurd (true≢false is)
+      by_looks (Some l) at_old None at_new is = absurd (true≢false is)
+      by_looks (Some l) at_old (Some m) at_new is =
+          ap Some (by_tests l m
+          (look_found (IsCurrent c looked once) p old l all at_old)
+          (look_found (λ (m : Look). (m ≡ look c m.obj) × (is_in looked m.obj ≡ true)) p (page_looks c) m looks_looked at_new)
+          (same_obj l.obj m.obj) refl (is_in once m.obj) refl is)

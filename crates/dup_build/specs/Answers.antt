@@ -1,10 +1,8 @@
 -- What the calls of a build answer, in the machine's words.
 use Rattle.std.specs.Prelude.{◌≡◌, ⊤, List}
 use Rattle.dup_names.specs.declared.object.Obj.{Obj}
-use Rattle.dup_names.specs.declared.value.Look.{Look}
 use Rattle.dup_names.specs.Words.{Path}
 use Rattle.dup_machine.specs.World as machine
-use Rattle.dup_build.specs.Paths.{SameElsewhere}
 use Rattle.dup_build.specs.declared.answers.Begun.{Begun}
 use Rattle.dup_build.specs.declared.answers.Begun.TheVariants as begun
 use Rattle.dup_build.specs.declared.answers.Finish.{Finish}
@@ -21,10 +19,10 @@ finish_told (finish.Unjoined n) = machine.Ended.Unjoined n
 finish_told (finish.Report v e j k touched) =
     machine.Ended.Report (record { version = v; expanded = e; joined = j; kept = k })
 
--- away from the paths that a report names, the pages have the looks that they had
-abbrev pub TellsTouched : Finish → List (Path × Look) → List (Path × Look) → Type 0
-TellsTouched (finish.Report v e j k touched) old new = SameElsewhere touched old new
-TellsTouched _ old new = ⊤
+-- P holds of the touched paths of a report
+abbrev pub ForTouched : Finish → (List Path → Type 0) → Type 0
+ForTouched (finish.Report v e j k touched) P = P touched
+ForTouched _ P = ⊤
 
 abbrev pub begun_told : Begun → machine.Begun
 begun_told (begun.Same v) = machine.Begun.Same v

@@ -1,7 +1,9 @@
 -- How a build is kept.
-use Rattle.std.specs.Prelude.{◌≡◌, Option, Some, None, List, [], if◌then◌else◌}
+use Rattle.std.specs.Prelude.{◌≡◌, Option, Some, None, List, [], IsTrue, if◌then◌else◌}
 use Rattle.std.specs.List.{All}
+use Rattle.std.specs.FinMap.Entries.{is_sorted}
 use Rattle.std.specs.Option.{option_map}
+use Rattle.dup_names.specs.Order.{text_cmp}
 use Rattle.dup_names.specs.declared.object.Obj.{Obj}
 use Rattle.dup_machine.specs.Builds.{Build}
 use Rattle.dup_machine.specs.World.{Work}
@@ -39,9 +41,10 @@ abbrev pub once_in : Inside → List Obj
 once_in a = if a.is_open then a.once else []
 
 -- between two works the stock has all that is live at the target, and the graph has what is done; what the
--- open work didn't join is shown as the target shows it
+-- open work didn't join is shown as the target shows it, whose paths rise
 pub record IsBuild (a : Inside) : Type 0 where
   pub is_done : a.stock.done ≡ done_in (works_in a)
   pub is_looked : a.stock.looked ≡ looked_in (works_in a)
   pub reads : HasReads a.stock.content a.stock.done a.graph
+  pub rising : IsTrue (is_sorted text_cmp (pages_in a.target))
   pub shown : All (IsCurrent a.stock.content a.stock.looked (once_in a)) (looks_in (pages_in a.target))

@@ -86,6 +86,11 @@ next_work_by v a c None None = first_work v
 abbrev pub opened : ℕ → Content → Build → Begun × Build
 opened v c b = opened_at v c (next_work_by v b.content c b.work b.target) b
 
+-- what the open work joined
+abbrev pub once_by : Option Work → List Obj
+once_by None = []
+once_by (Some work) = work.once
+
 -- whether an object waits
 abbrev pub waits_by : Content → Option Work → Obj → Bool
 waits_by c None o = false

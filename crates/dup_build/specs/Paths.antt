@@ -1,15 +1,25 @@
 -- The paths at which a target may have another look than the last one.
-use Rattle.std.specs.Prelude.{◌≡◌, true, false, List, map}
-use Rattle.std.specs.List.{Contains}
+use Rattle.std.specs.Prelude.{◌≡◌, ◌&&◌, Bool, true, false, not, List, map, Option, Some, None}
 use Rattle.std.specs.FinMap as fin
 use Rattle.dup_names.specs.Order.{text_cmp}
 use Rattle.dup_names.specs.declared.object.Obj.{Obj}
 use Rattle.dup_names.specs.declared.value.Look.{Look}
-use Rattle.dup_names.specs.Objects.{is_in}
+use Rattle.dup_names.specs.Objects.{is_in, same_obj}
 use Rattle.dup_names.specs.Words.{Path}
 use Rattle.dup_model.specs.Content.{Content}
 use Rattle.dup_model.specs.Editions.{has}
 use Rattle.dup_model.specs.Looks.{look}
+
+-- whether a path's page is new or gone, or shows another object, or one of these
+abbrev pub is_touched : List Obj → Option Look → Option Look → Bool
+is_touched objs None None = false
+is_touched objs (Some l) (Some m) = not (same_obj l.obj m.obj && not (is_in objs m.obj))
+is_touched objs _ _ = true
+
+-- these are the paths of such pages
+abbrev pub AreTouched : List Obj → List (Path × Look) → List (Path × Look) → List Path → Type 0
+AreTouched objs old new paths = (p : Path) →
+    has paths p ≡ is_touched objs (fin.find text_cmp p old) (fin.find text_cmp p new)
 
 -- away from these paths the pages have the looks that they had
 abbrev pub SameElsewhere : List Path → List (Path × Look) → List (Path × Look) → Type 0
@@ -18,11 +28,6 @@ SameElsewhere paths old new = (p : Path) → has paths p ≡ false → fin.find 
 -- the looks of these pages
 abbrev pub looks_in : List (Path × Look) → List Look
 looks_in pages = map (λ p. p.1) pages
-
--- an object that isn't one of these has one look in both
-abbrev pub SameLooks : List Obj → List (Path × Look) → List (Path × Look) → Type 0
-SameLooks objs old new = (l m : Look) → Contains (looks_in old) l → Contains (looks_in new) m →
-    l.obj ≡ m.obj → is_in objs m.obj ≡ false → l ≡ m
 
 -- the look of an object that has one, which the work didn't join, is the object's at the content
 abbrev pub IsCurrent : Content → List Obj → List Obj → Look → Type 0

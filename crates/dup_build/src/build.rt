@@ -7,12 +7,15 @@ ghost use Rattle.dup_model.specs.Content.{start};
 ghost use Rattle.dup_model.specs.Looks.{look};
 ghost use Rattle.dup_names.specs.Objects.{is_in};
 ghost use Rattle.dup_model.specs.Touched.{touched, affected};
-ghost use Rattle.dup_build.specs.Answers.{begun_told, finish_told, joined_told, SaysPut, TellsTouched};
+ghost use Rattle.dup_build.specs.Answers.{begun_told, finish_told, joined_told, SaysPut, ForTouched};
 ghost use Rattle.dup_machine.specs.Works.{with_joined};
 ghost use Rattle.dup_machine.specs.Works.{with_done};
 ghost use Rattle.dup_model.specs.Commits.{after};
 ghost use Rattle.std.specs.List.{fold};
 ghost use Rattle.dup_build.specs.Nodes.{IsNode};
+ghost use Rattle.std.specs.FinMap.Entries.{is_sorted};
+ghost use Rattle.dup_names.specs.Order.{text_cmp};
+ghost use Rattle.dup_build.specs.Paths.{AreTouched, SameElsewhere};
 ghost use Rattle.dup_build.specs.Targets.{looks_of};
 ghost use Rattle.dup_build.specs.Built as built;
 
@@ -227,10 +230,11 @@ impl Build {
         Some(self.version)
     }
 
-    /// The target, where one was made.
+    /// The target, where one was made. Its paths rise.
     pub fn target(&self) -> Option<&Target>
         ensures version { option_map (λ t. t.now.version) result ≡ self.now.works.target }
         ensures looks { IfSome result (λ t. looks_of t.now ≡ self.now.pages) }
+        ensures order { IsTrue (is_sorted text_cmp self.now.pages) }
     {
         self.target.as_ref()
     }
@@ -424,7 +428,10 @@ impl Build {
         requires calm { built.waiting_by self.old.works.content self.old.works.work ≡ [] }
         requires joined { built.unjoined_by self.old.works.content self.old.works.work ≡ [] }
         ensures told { IfOk result (λ told. finish_told told ≡ (built.finished self.old.works).0) }
-        ensures touched { IfOk result (λ told. TellsTouched told self.old.pages self.new.pages) }
+        ensures touched { IfOk result (λ told. ForTouched told
+            (AreTouched (built.once_by self.old.works.work) self.old.pages self.new.pages)) }
+        ensures elsewhere { IfOk result (λ told. ForTouched told (λ paths.
+            SameElsewhere paths self.old.pages self.new.pages)) }
         ensures build { OnOk result (self.new ≡ built.closed (built.finished self.old.works) self.old) }
         ensures err { OnErr result (self.new ≡ self.old) }
     {
@@ -457,7 +464,10 @@ impl Build {
     /// and of one over what is kept; no bytes are compared or copied.
     pub fn finish(&mut self, alloc: Global) -> Result<Finish, NoMemory>
         ensures told { IfOk result (λ told. finish_told told ≡ (built.finished self.old.works).0) }
-        ensures touched { IfOk result (λ told. TellsTouched told self.old.pages self.new.pages) }
+        ensures touched { IfOk result (λ told. ForTouched told
+            (AreTouched (built.once_by self.old.works.work) self.old.pages self.new.pages)) }
+        ensures elsewhere { IfOk result (λ told. ForTouched told (λ paths.
+            SameElsewhere paths self.old.pages self.new.pages)) }
         ensures build { OnOk result (self.new ≡ built.closed (built.finished self.old.works) self.old) }
         ensures err { OnErr result (self.new ≡ self.old) }
     {

@@ -1,7 +1,9 @@
 // The paths at which a target may have another look than the last one.
-ghost use Rattle.std.specs.Prelude.{◌≡◌, ◌++◌, ◌∷◌, [], ◌&&◌, not, IfOk, OnOk, map, if◌then◌else◌};
+ghost use Rattle.std.specs.Prelude.{◌≡◌, ◌++◌, ◌∷◌, [], ◌&&◌, not, IsTrue, IfOk, OnOk, map, if◌then◌else◌};
 ghost use Rattle.dup_names.specs.Objects.{is_in, same_obj};
-ghost use Rattle.dup_build.specs.Paths.{SameElsewhere, SameLooks};
+ghost use Rattle.dup_build.specs.Paths.{AreTouched};
+ghost use Rattle.std.specs.FinMap.Entries.{is_sorted};
+ghost use Rattle.dup_names.specs.Order.{text_cmp};
 ghost use Rattle.dup_build.specs.Targets.{looks_by_path, pages_in};
 
 use dup_names::{Look, NoMemory, Path};
@@ -69,9 +71,10 @@ pub(crate) fn touched_paths(
     new: &[Page],
     once: &ObjSet,
 ) -> Result<Vec<Path>, NoMemory>
-    requires { SameLooks once.now (looks_by_path old.now) (looks_by_path new.now) }
+    requires old { IsTrue (is_sorted text_cmp (looks_by_path old.now)) }
+    requires new { IsTrue (is_sorted text_cmp (looks_by_path new.now)) }
     ensures { IfOk result (λ made.
-        SameElsewhere made.items (looks_by_path old.now) (looks_by_path new.now)) }
+        AreTouched once.now (looks_by_path old.now) (looks_by_path new.now) made.items) }
 {
     let mut paths = Vec::new(alloc);
     let mut old_at = 0;

@@ -85,6 +85,7 @@ invariant_of-self-in_default c =
       is_done = ap (λ (o : Bool). done_by c.join.new.self.content (option_map (λ t. t.version) c.self.inside.target) (cond o (Some (work_in after)) None)) (sym open_is);
       is_looked = ap (λ (o : Bool). looked_by c.join.new.self.content (option_map (λ t. t.version) c.self.inside.target) (cond o (Some (work_in after)) None)) (sym open_is);
       reads = subst (λ (s : Stocked). HasReads s.content s.done c.self.inside.graph) (sym c.in_default.ensures.ok) c.self.invariant.reads;
+      rising = c.self.invariant.rising;
       shown = subst (λ (s : Stocked). All (IsCurrent s.content s.looked (cond c.self.inside.is_open c.add_all.new.self [])) looks) (sym c.in_default.ensures.ok)
           (subst (λ (o : Bool). All (IsCurrent c.self.inside.stock.content (in_order obj_cmp (c.args.level.now ++ c.self.inside.stock.looked)) (cond o c.add_all.new.self [])) looks) (sym open_is) now);
     }
