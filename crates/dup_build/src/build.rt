@@ -340,6 +340,8 @@ impl Build {
         ensures stays { expanded.value.frame ≢ self.old.works.content.frame → self.new ≡ self.old }
 
         // The frames are the same.
+        ensures ours { IfOk result (λ told. told ≢ Put.Foreign →
+            expanded.value.frame ≡ self.old.works.content.frame) }
         ensures told { expanded.value.frame ≡ self.old.works.content.frame →
             IfOk result (λ told. SaysPut expanded.value.obj told
             (built.put expanded.value.obj expanded.value.notes self.old.works).0) }

@@ -1,2 +1,4 @@
 pub mod Journaled
 pub mod Journal
+pub mod Worked
+pub mod Workshop

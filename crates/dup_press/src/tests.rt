@@ -1,11 +1,14 @@
-use crate::Journal;
-use dup_names::{Key, Name};
+use crate::{Journal, Workshop};
+use dup_build::{Finish, Joined};
+use dup_names::{Key, Meter, Name};
 use dup_records::{Change, Commit, CommitRefusal, Limits};
+use dup_render::expand;
 use dup_samples::RESULTS_SITE;
 use dup_site::read_site;
 use std::alloc::Global;
 use std::sync::Arc;
 use std::test::Fail;
+use std::thread::Threads;
 
 // A commit that puts an event without fields.
 fn event(alloc: Global, key: &str) -> Result<Commit, Fail> {
@@ -54,5 +57,56 @@ fn a_journal_takes_as_many_commits_as_it_has_room_for(rt: HostRuntime) -> Result
         );
     }
     assert_eq!(&rt; journal.version(), 2);
+    Ok(())
+}
+
+// Hands, expands and puts as long as an object waits, at most so many times.
+fn expand_all(alloc: Global, shop: &mut Workshop, times: u64) -> Result<u64, Fail> {
+    let mut meter = Meter::new();
+    for _time in 0..times {
+        let Some(job) = shop.hand(alloc)? else {
+            return Ok(meter.count());
+        };
+        let made = expand(alloc, &job.content, &job.obj, &mut meter)?;
+        shop.put(alloc, Arc::new(alloc, made)?)?;
+    }
+    Ok(meter.count())
+}
+
+// Joins level after level, at most so many.
+fn join_all(
+    rt: &(impl Threads + Sync),
+    alloc: Global,
+    shop: &mut Workshop,
+    levels: u64,
+) -> Result<u64, Fail> {
+    let mut joined = 0u64;
+    for _level in 0..levels {
+        let Joined::Level(count) = shop.join(rt, alloc)? else {
+            return Ok(joined);
+        };
+        joined = joined.saturating_add(count);
+    }
+    Ok(joined)
+}
+
+#[test]
+fn a_commit_becomes_a_target(rt: HostRuntime) -> Result<(), Fail> {
+    let alloc = rt.alloc();
+    let site = read_site(alloc, RESULTS_SITE).ok().ok_or("a good site")?;
+    let site = Arc::new(alloc, site)?;
+    let mut shop = Workshop::new(alloc, site, Limits::default())?;
+    let taken = told(alloc, shop.commit(alloc, event(alloc, "e1")?))?;
+    assert_eq!(&rt; taken.as_str(), "committed 1");
+    shop.begin(alloc)?;
+    assert_eq!(&rt; shop.work(), Some(1));
+    assert_eq!(&rt; expand_all(alloc, &mut shop, 9)?, 1, "expanded");
+    assert_eq!(&rt; join_all(&rt, alloc, &mut shop, 9)?, 1, "joined");
+    let Finish::Report { version, kept, .. } = shop.finish(alloc)? else {
+        return Err(Fail::from("no report"));
+    };
+    assert_eq!(&rt; (version, kept), (1, 0));
+    assert!(&rt; shop.target().is_some());
+    assert_eq!(&rt; shop.journal().version(), 1);
     Ok(())
 }
