@@ -1,5 +1,5 @@
 -- How a build is kept.
-use Rattle.std.specs.Prelude.{◌≡◌, Option, Some, None, List, [], IsTrue, if◌then◌else◌}
+use Rattle.std.specs.Prelude.{◌≡◌, Some, None, List, [], IsTrue, if◌then◌else◌}
 use Rattle.std.specs.List.{All}
 use Rattle.std.specs.FinMap.Entries.{is_sorted}
 use Rattle.std.specs.Option.{option_map}

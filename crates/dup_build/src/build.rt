@@ -71,7 +71,8 @@ impl Model for Build {
 }
 
 impl Build {
-    /// A build of a site, before the first `begin`.
+    /// A build of a site, before the first `begin`. The cost is that of listing the pages of the site
+    /// without rows.
     pub fn new(alloc: Global, site: Arc<Site, Global>) -> Result<Build, NoMemory>
         ensures { IfOk result (λ made. made ≡ built.first_build (start site.value)) }
     {
@@ -220,7 +221,7 @@ impl Build {
         self.begin_over(alloc, version, content, &hits.dropped, &hits.stale)
     }
 
-    /// The version of the open work, where one is open.
+    /// The version of the open work, where one is open. It takes no memory.
     pub fn work(&self) -> Option<u64>
         ensures { result ≡ option_map (λ work. work.version) self.now.works.work }
     {
@@ -230,7 +231,7 @@ impl Build {
         Some(self.version)
     }
 
-    /// The target, where one was made. Its paths rise.
+    /// The target, where one was made. Its paths rise. It takes no memory.
     pub fn target(&self) -> Option<&Target>
         ensures version { option_map (λ t. t.now.version) result ≡ self.now.works.target }
         ensures looks { IfSome result (λ t. looks_of t.now ≡ self.now.pages) }
@@ -460,7 +461,8 @@ impl Build {
         })
     }
 
-    /// Closes the open work, where all that is found has a look: its looks are the target.
+    /// Closes the open work, where all that is found has a look: its looks are the target. A report
+    /// tells the touched paths, away from which the target is as it was.
     ///
     /// The cost is that of listing the pages, of one walk over them and the last target's, side by side,
     /// and of one over what is kept; no bytes are compared or copied.
