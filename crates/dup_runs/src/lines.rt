@@ -165,37 +165,41 @@ fn commits_of_another_form_are_not_built(rt: HostRuntime) -> Result<(), Fail> {
 }
 
 #[test]
-fn messages_that_are_no_json_are_refused(rt: HostRuntime) -> Result<(), Fail> {
-    let lines: [&[u8]; 3] = [b"commit [", b"commit e1", b"commit \xff"];
-    each_answers(&rt, &lines, b"refused not json\n")
-}
-
-#[test]
-fn messages_without_an_array_of_changes_are_refused(rt: HostRuntime) -> Result<(), Fail> {
-    let lines: [&[u8]; 5] = [
-        b"commit {}",
-        b"commit []",
-        b"commit {\"changes\":[]}",
-        b"commit {\"changes\":{}}",
-        b"commit {\"changes\":[{\"put\":\"event\",\"key\":\"e1\",\"fields\":{}}],\"more\":1}",
+fn messages_that_say_no_commit_are_refused(rt: HostRuntime) -> Result<(), Fail> {
+    let groups: [(&[&[u8]], &[u8]); 3] = [
+        (
+            &[b"commit [", b"commit e1", b"commit \xff"],
+            b"refused not json\n",
+        ),
+        (
+            &[
+                b"commit {}",
+                b"commit []",
+                b"commit {\"changes\":[]}",
+                b"commit {\"changes\":{}}",
+                b"commit {\"changes\":[{\"put\":\"event\",\"key\":\"e1\",\"fields\":{}}],\"more\":1}",
+            ],
+            b"refused shape 0\n",
+        ),
+        (
+            &[
+                b"commit {\"changes\":[{\"put\":\"event\",\"key\":\"e1\",\"fields\":{},\"more\":1}]}",
+                b"commit {\"changes\":[{\"put\":\"event\",\"key\":\"e1\"}]}",
+                b"commit {\"changes\":[{\"put\":\"event\",\"key\":\"e1\",\"fields\":{\"title\":1}}]}",
+                b"commit {\"changes\":[{\"put\":\"event\",\"key\":\"e1\",\"fields\":{\"Title\":\"x\"}}]}",
+                b"commit {\"changes\":[{\"put\":\"event\",\"key\":\"E1\",\"fields\":{}}]}",
+                b"commit {\"changes\":[{\"put\":\"event\",\"key\":\"\",\"fields\":{}}]}",
+                b"commit {\"changes\":[{\"put\":\"2nd\",\"key\":\"e1\",\"fields\":{}}]}",
+                b"commit {\"changes\":[{\"put\":\"event\",\"key\":\"e1\",\"fields\":[]}]}",
+                b"commit {\"changes\":[{\"template\":\"event_page\",\"body\":[\"end\"]}]}",
+            ],
+            b"refused shape 1\n",
+        ),
     ];
-    each_answers(&rt, &lines, b"refused shape 0\n")
-}
-
-#[test]
-fn elements_that_are_no_changes_are_refused(rt: HostRuntime) -> Result<(), Fail> {
-    let lines: [&[u8]; 9] = [
-        b"commit {\"changes\":[{\"put\":\"event\",\"key\":\"e1\",\"fields\":{},\"more\":1}]}",
-        b"commit {\"changes\":[{\"put\":\"event\",\"key\":\"e1\"}]}",
-        b"commit {\"changes\":[{\"put\":\"event\",\"key\":\"e1\",\"fields\":{\"title\":1}}]}",
-        b"commit {\"changes\":[{\"put\":\"event\",\"key\":\"e1\",\"fields\":{\"Title\":\"x\"}}]}",
-        b"commit {\"changes\":[{\"put\":\"event\",\"key\":\"E1\",\"fields\":{}}]}",
-        b"commit {\"changes\":[{\"put\":\"event\",\"key\":\"\",\"fields\":{}}]}",
-        b"commit {\"changes\":[{\"put\":\"2nd\",\"key\":\"e1\",\"fields\":{}}]}",
-        b"commit {\"changes\":[{\"put\":\"event\",\"key\":\"e1\",\"fields\":[]}]}",
-        b"commit {\"changes\":[{\"template\":\"event_page\",\"body\":[\"end\"]}]}",
-    ];
-    each_answers(&rt, &lines, b"refused shape 1\n")
+    for (lines, answer) in groups {
+        each_answers(&rt, lines, answer)?;
+    }
+    Ok(())
 }
 
 #[test]
