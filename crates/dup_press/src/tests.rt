@@ -1,5 +1,5 @@
 use crate::{Journal, Workshop};
-use dup_build::{Finish, Joined};
+use dup_build::{Finish, Joined, Put};
 use dup_names::{Key, Meter, Name};
 use dup_records::{Change, Commit, CommitRefusal, Limits};
 use dup_render::expand;
@@ -60,53 +60,55 @@ fn a_journal_takes_as_many_commits_as_it_has_room_for(rt: HostRuntime) -> Result
     Ok(())
 }
 
-// Hands, expands and puts as long as an object waits, at most so many times.
-fn expand_all(alloc: Global, shop: &mut Workshop, times: u64) -> Result<u64, Fail> {
-    let mut meter = Meter::new();
-    for _time in 0..times {
-        let Some(job) = shop.hand(alloc)? else {
-            return Ok(meter.count());
-        };
-        let made = expand(alloc, &job.content, &job.obj, &mut meter)?;
-        shop.put(alloc, Arc::new(alloc, made)?)?;
+// A workshop of the results site whose work is open over one event.
+fn opened(alloc: Global) -> Result<Workshop, Fail> {
+    let site = read_site(alloc, RESULTS_SITE).ok().ok_or("a good site")?;
+    let site = Arc::new(alloc, site)?;
+    let mut shop = Workshop::new(alloc, site, Limits::default())?;
+    let first = event(alloc, "e1")?;
+    let taken = shop.commit(alloc, first).is_ok();
+    if !taken {
+        return Err(Fail::from("a refused commit"));
     }
-    Ok(meter.count())
+    shop.begin(alloc)?;
+    Ok(shop)
 }
 
-// Joins level after level, at most so many.
-fn join_all(
-    rt: &(impl Threads + Sync),
-    alloc: Global,
-    shop: &mut Workshop,
-    levels: u64,
-) -> Result<u64, Fail> {
-    let mut joined = 0u64;
-    for _level in 0..levels {
-        let Joined::Level(count) = shop.join(rt, alloc)? else {
-            return Ok(joined);
-        };
-        joined = joined.saturating_add(count);
-    }
-    Ok(joined)
+// Hands, expands and puts one object. Whether none waits then.
+fn put_one(alloc: Global, shop: &mut Workshop) -> Result<bool, Fail> {
+    let job = shop.hand(alloc)?.ok_or("a job")?;
+    let mut meter = Meter::new();
+    let made = expand(alloc, &job.content, &job.obj, &mut meter)?;
+    let made = Arc::new(alloc, made)?;
+    let put = shop.put(alloc, made)?;
+    Ok(matches!(put, Put::Kept { waiting: 0 }))
+}
+
+// Joins a level. Whether it has one object.
+fn join_one(rt: &(impl Threads + Sync), alloc: Global, shop: &mut Workshop) -> Result<bool, Fail> {
+    let joined = shop.join(rt, alloc)?;
+    Ok(matches!(joined, Joined::Level(1)))
+}
+
+// Whether the work is done, and kept nothing.
+fn is_finished(alloc: Global, shop: &mut Workshop) -> Result<bool, Fail> {
+    let finish = shop.finish(alloc)?;
+    Ok(matches!(
+        finish,
+        Finish::Report {
+            version: 1,
+            kept: 0,
+            ..
+        }
+    ))
 }
 
 #[test]
 fn a_commit_becomes_a_target(rt: HostRuntime) -> Result<(), Fail> {
     let alloc = rt.alloc();
-    let site = read_site(alloc, RESULTS_SITE).ok().ok_or("a good site")?;
-    let site = Arc::new(alloc, site)?;
-    let mut shop = Workshop::new(alloc, site, Limits::default())?;
-    let taken = told(alloc, shop.commit(alloc, event(alloc, "e1")?))?;
-    assert_eq!(&rt; taken.as_str(), "committed 1");
-    shop.begin(alloc)?;
-    assert_eq!(&rt; shop.work(), Some(1));
-    assert_eq!(&rt; expand_all(alloc, &mut shop, 9)?, 1, "expanded");
-    assert_eq!(&rt; join_all(&rt, alloc, &mut shop, 9)?, 1, "joined");
-    let Finish::Report { version, kept, .. } = shop.finish(alloc)? else {
-        return Err(Fail::from("no report"));
-    };
-    assert_eq!(&rt; (version, kept), (1, 0));
-    assert!(&rt; shop.target().is_some());
-    assert_eq!(&rt; shop.journal().version(), 1);
+    let mut shop = opened(alloc)?;
+    assert!(&rt; put_one(alloc, &mut shop)?, "put");
+    assert!(&rt; join_one(&rt, alloc, &mut shop)?, "joined");
+    assert!(&rt; is_finished(alloc, &mut shop)?, "finished");
     Ok(())
 }

@@ -1,4 +1,4 @@
-use Rattle.std.proofs.Common.{rules, sym, ap, subst, ◌∙◌}
+use Rattle.std.proofs.Common.{rules, subst}
 use Rattle.dup_build.specs.Answers.{finish_told}
 use Rattle.dup_machine.specs.Builds.{Build, finish_in}
 use Rattle.dup_machine.specs.Presses.{finish_step}

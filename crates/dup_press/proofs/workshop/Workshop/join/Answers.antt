@@ -1,4 +1,4 @@
-use Rattle.std.proofs.Common.{rules, sym, ap, subst, ◌∙◌}
+use Rattle.std.proofs.Common.{rules, subst}
 use Rattle.dup_build.specs.Answers.{joined_told}
 use Rattle.dup_machine.specs.Builds.{Build, join_in}
 use Rattle.dup_machine.specs.Presses.{join_step}

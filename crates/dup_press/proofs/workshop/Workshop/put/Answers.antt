@@ -1,4 +1,4 @@
-use Rattle.std.proofs.Common.{◌≡◌, rules, sym, ap, subst, ◌∙◌}
+use Rattle.std.proofs.Common.{◌≡◌, sym, ap, subst, ◌∙◌}
 use Rattle.dup_build.specs.declared.answers.Put.TheVariants as put
 use Rattle.dup_machine.specs.Presses.{put_step}
 use Rattle.dup_template.specs.Frame.{Frame, frame_of}
