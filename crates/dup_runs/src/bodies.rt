@@ -73,8 +73,7 @@ fn a_body_is_replaced_or_refused(rt: HostRuntime) -> Result<(), Fail> {
         ),
     ];
     for (name, line, output) in rows {
-        let comment = format!(in rt.alloc(); "\n# {name}")?;
-        let input = joined(rt.alloc(), &[SITE, A, line, comment.as_bytes()])?;
+        let input = joined(rt.alloc(), &[SITE, A, line, b"\n# ", name.as_bytes()])?;
         ends(&rt, rendering(64), &input, 0, output)?;
     }
     Ok(())
