@@ -1,8 +1,11 @@
 // Commits and works.
-ghost use Rattle.std.specs.Prelude.{◌≡◌, ◌≢◌, ◌↔◌, [], IfErr, IfOk, IfSome, None, OnErr, OnOk};
+ghost use Rattle.std.specs.Prelude.{◌≡◌, ◌≢◌, ◌↔◌, [], IfErr, IfOk, IfSome, IsTrue, None, OnErr, OnOk};
+ghost use Rattle.std.specs.FinMap.Entries.{is_sorted};
+ghost use Rattle.dup_names.specs.Order.{text_cmp};
 ghost use Rattle.std.specs.Option.{option_map};
 ghost use Rattle.dup_build.specs.Answers.{ForTouched, begun_told, finish_told, joined_told};
-ghost use Rattle.dup_build.specs.Paths.{SameElsewhere};
+ghost use Rattle.dup_build.specs.Built.{once_by};
+ghost use Rattle.dup_build.specs.Paths.{AreTouched, SameElsewhere};
 ghost use Rattle.dup_build.specs.Targets.{looks_of};
 ghost use Rattle.dup_machine.specs.Presses.{begin_step, begun_version, commit_step, finish_step, hand_step, join_step, put_step};
 ghost use Rattle.dup_machine.specs.World as machine;
@@ -81,10 +84,11 @@ impl Workshop {
         &self.journal
     }
 
-    /// The target, where one was made.
+    /// The target, where one was made. Its paths rise.
     pub fn target(&self) -> Option<&Target>
         ensures version { option_map (λ t. t.now.version) result ≡ self.now.target }
         ensures looks { IfSome result (λ t. looks_of t.now ≡ self.now.pages) }
+        ensures order { IsTrue (is_sorted text_cmp self.now.pages) }
     {
         self.build.target()
     }
@@ -179,6 +183,8 @@ impl Workshop {
         ensures step { IfOk result (λ finish. IsStep
             (finish_step self.old.journal.site self.old.work self.old.target) self.old
             (machine.Told.Finished (finish_told finish)) self.new) }
+        ensures touched { IfOk result (λ finish. ForTouched finish
+            (AreTouched (once_by self.old.work) self.old.pages self.new.pages)) }
         ensures elsewhere { IfOk result (λ finish. ForTouched finish (λ paths.
             SameElsewhere paths self.old.pages self.new.pages)) }
         ensures journal { self.new.journal ≡ self.old.journal }
