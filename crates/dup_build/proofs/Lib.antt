@@ -3,10 +3,13 @@ pub mod Stocking
 pub mod Moving
 pub mod Notes
 pub mod Builds
+pub mod Failing
 pub mod Joining
+pub mod Planning
 pub mod Forgetting
 pub mod Pages
 pub mod Rising
+pub mod Ordered
 pub mod Touching
 pub mod Showing
 pub mod Graphs

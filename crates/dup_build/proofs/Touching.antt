@@ -1,5 +1,5 @@
 -- Two lists of pages, walked side by side: which paths are touched.
-use Rattle.std.proofs.Common.{◌≡◌, inl, inr, ◌⊎◌, Bool, true, false, not, cond, ◌||◌, ◌&&◌, List, [], ◌∷◌, ◌++◌, map, Option, Some, None, refl, sym, ap, ◌∙◌}
+use Rattle.std.proofs.Common.{◌≡◌, inl, inr, ◌⊎◌, Bool, true, false, not, cond, ◌||◌, ◌&&◌, List, [], ◌∷◌, ◌++◌, map, Option, Some, None, refl, sym, ap, subst, ◌∙◌}
 use Rattle.std.specs.Prelude.{is_some}
 use Rattle.std.specs.FinMap as fin
 use Rattle.std.specs.FinMap.Entries.{below_all, is_some-find, is_sorted}
@@ -18,6 +18,7 @@ use Rattle.dup_names.specs.Words.{Path}
 use Rattle.dup_model.specs.Editions.{has}
 use Rattle.dup_build.specs.Paths.{is_touched, AreTouched}
 use Rattle.dup_build.proofs.Rising.{below_after, both, parts}
+use Rattle.dup_build.proofs.Ordered.{Rise, paths_in, push_on, rise_between, rise_if}
 
 abbrev at : Path → List (Path × Look) → Option Look
 at p pages = fin.find text_cmp p pages
@@ -144,11 +145,23 @@ module _ (once : List Obj) where
         by_end (inl none) = no_old (at p old) (at p new) (ap (at p) none)
         by_end (inr none) = no_new (at p old) (at p new) (ap (at p) none)
 
+behind : (ps : List Path) → ps ++ [] ≡ ps
+behind [] = refl
+behind (p ∷ ps) = ap (λ l. p ∷ l) (behind ps)
+
+-- what is left of one list, where nothing is left of the other, rises behind the paths
+pub rise_all : (paths : List Path) (old new : List (Path × Look)) → (old ≡ []) ⊎ (new ≡ []) → Rise (paths ++ paths_in old) → Rise (paths ++ paths_in new) → Rise ((paths ++ paths_in old) ++ paths_in new)
+rise_all paths old new (inl none) before after =
+    subst (λ l. Rise ((paths ++ paths_in l) ++ paths_in new)) (sym none) (subst (λ l. Rise (l ++ paths_in new)) (sym (behind paths)) after)
+rise_all paths old new (inr none) before after = subst (λ l. Rise ((paths ++ paths_in old) ++ paths_in l)) (sym none) (subst Rise (sym (behind (paths ++ paths_in old))) before)
+
 -- how far a walk over two lists of pages has come
 pub record Walked (once : List Obj) (paths : List Path) (olds news old new : List (Path × Look)) : Type 0 where
   pub told : Told once paths olds news old new
   pub old_rises : is_sorted text_cmp old ≡ true
   pub new_rises : is_sorted text_cmp new ≡ true
+  pub old_after : Rise (paths ++ paths_in old)
+  pub new_after : Rise (paths ++ paths_in new)
 
 module _ (once : List Obj) (paths : List Path) (olds news : List (Path × Look)) (d e : Path × Look) (old new : List (Path × Look)) (w : Walked once paths olds news (d ∷ old) (e ∷ new)) where
   of_old : (below_all text_cmp d.0 old ≡ true) × (is_sorted text_cmp old ≡ true)
@@ -162,6 +175,8 @@ module _ (once : List Obj) (paths : List Path) (olds news : List (Path × Look))
     told = past_old once paths olds news d old (e ∷ new) (both (is_lt (text_cmp d.0 e.0)) (below_all text_cmp d.0 new) (ap is_lt less) (below_after d.0 e.0 less new of_new.0)) w.told;
     old_rises = of_old.1;
     new_rises = w.new_rises;
+    old_after = subst Rise (sym (push_on paths d.0 (paths_in old))) w.old_after;
+    new_after = subst Rise (sym (push_on paths d.0 (paths_in (e ∷ new)))) (rise_between paths d.0 e.0 (paths_in old) (paths_in new) less w.old_after w.new_after);
   }
 
   pub passed_new : text_cmp d.0 e.0 ≡ Greater → Walked once (paths ++ e.0 ∷ []) olds news (d ∷ old) new
@@ -171,6 +186,8 @@ module _ (once : List Obj) (paths : List Path) (olds news : List (Path × Look))
         told = past_new once paths olds news e (d ∷ old) new (both (is_lt (text_cmp e.0 d.0)) (below_all text_cmp e.0 old) (ap is_lt less) (below_after e.0 d.0 less old of_old.0)) w.told;
         old_rises = w.old_rises;
         new_rises = of_new.1;
+        old_after = subst Rise (sym (push_on paths e.0 (paths_in (d ∷ old)))) (rise_between paths e.0 d.0 (paths_in new) (paths_in old) less w.new_after w.old_after);
+        new_after = subst Rise (sym (push_on paths e.0 (paths_in new))) w.new_after;
       }
 
   pub passed_both : text_cmp d.0 e.0 ≡ Equal → Walked once (cond (keeps once d.1 e.1) paths (paths ++ d.0 ∷ [])) olds news old new
@@ -178,4 +195,7 @@ module _ (once : List Obj) (paths : List Path) (olds news : List (Path × Look))
     told = past_both once paths olds news d e old new (fin.slice_cmp-IsAntisymmetric fin.nat_cmp-IsAntisymmetric d.0 e.0 equal) of_old.0 of_new.0 w.told;
     old_rises = of_old.1;
     new_rises = of_new.1;
+    old_after = rise_if (keeps once d.1 e.1) paths d.0 (paths_in old) w.old_after;
+    new_after = rise_if (keeps once d.1 e.1) paths d.0 (paths_in new)
+        (subst (λ p. Rise (paths ++ p ∷ paths_in new)) (sym (fin.slice_cmp-IsAntisymmetric fin.nat_cmp-IsAntisymmetric d.0 e.0 equal)) w.new_after);
   }

@@ -1,5 +1,5 @@
 -- How a build is kept.
-use Rattle.std.specs.Prelude.{◌≡◌, Some, None, List, [], IsTrue, if◌then◌else◌}
+use Rattle.std.specs.Prelude.{◌≡◌, Some, None, List, [], IsTrue, IfSome, if◌then◌else◌}
 use Rattle.std.specs.List.{All}
 use Rattle.std.specs.FinMap.Entries.{is_sorted}
 use Rattle.std.specs.Option.{option_map}
@@ -10,6 +10,7 @@ use Rattle.dup_machine.specs.World.{Work}
 use Rattle.dup_build.specs.declared.build.Build.TheInside.{Inside}
 use Rattle.dup_build.specs.Built.{Built, done_in, looked_in}
 use Rattle.dup_build.specs.Paths.{IsCurrent, looks_in}
+use Rattle.dup_build.specs.Stocked.{level_in}
 use Rattle.dup_build.specs.Targets.{pages_in}
 use Rattle.dup_walk.specs.OverReads.{HasReads}
 
@@ -41,10 +42,11 @@ abbrev pub once_in : Inside → List Obj
 once_in a = if a.is_open then a.once else []
 
 -- between two works the stock has all that is live at the target, and the graph has what is done; what the
--- open work didn't join is shown as the target shows it, whose paths rise
+-- open work didn't join is shown as the target shows it, whose paths rise; a level that is planned is the next
 pub record IsBuild (a : Inside) : Type 0 where
   pub is_done : a.stock.done ≡ done_in (works_in a)
   pub is_looked : a.stock.looked ≡ looked_in (works_in a)
   pub reads : HasReads a.stock.content a.stock.done a.graph
   pub rising : IsTrue (is_sorted text_cmp (pages_in a.target))
   pub shown : All (IsCurrent a.stock.content a.stock.looked (once_in a)) (looks_in (pages_in a.target))
+  pub planned : IfSome a.next (λ objs. objs.items ≡ level_in a.stock)

@@ -14,6 +14,7 @@ ghost use Rattle.dup_model.specs.Commits.{after};
 ghost use Rattle.std.specs.List.{fold};
 ghost use Rattle.dup_build.specs.Nodes.{IsNode};
 ghost use Rattle.std.specs.FinMap.Entries.{is_sorted};
+ghost use Rattle.std.specs.List.Sorted.{IsStrictlySortedBy};
 ghost use Rattle.dup_names.specs.Order.{text_cmp};
 ghost use Rattle.dup_build.specs.Paths.{AreTouched, SameElsewhere};
 ghost use Rattle.dup_build.specs.Targets.{looks_of};
@@ -23,7 +24,7 @@ use crate::answers::{Begun, Finish, Joined, Put};
 use crate::hits::hits_of;
 use crate::job::Job;
 use crate::keyed::commits_keyed;
-use crate::levels::level_looks;
+use crate::levels::{level_looks, level_of, plan};
 use crate::node::Node;
 use crate::paths::{pages_of, touched_paths};
 use crate::reads::{drop_all, put_node};
@@ -51,6 +52,7 @@ pub struct Build {
     is_open: bool,
     last_handed: Option<Obj>,
     once: ObjSet,
+    next: Option<Vec<Obj>>,
     expanded: u64,
     joined: u64,
 }
@@ -86,6 +88,7 @@ impl Build {
             is_open: false,
             last_handed: None,
             once: ObjSet::new(alloc),
+            next: None,
             expanded: 0,
             joined: 0,
         })
@@ -120,6 +123,7 @@ impl Build {
         self.is_open = true;
         self.last_handed = None;
         self.once = ObjSet::new(alloc);
+        self.next = None;
         self.expanded = 0;
         self.joined = 0;
         let waiting = self.stock.waiting() as u64;
@@ -153,6 +157,7 @@ impl Build {
         drop_all(&mut self.graph, &gone);
         self.version = version;
         self.last_handed = None;
+        self.next = None;
         let waiting = self.stock.waiting() as u64;
         Ok(Begun::Work { version, waiting })
     }
@@ -249,6 +254,9 @@ impl Build {
         ensures content { IfOk result (λ job. IfSome job (λ j. j.content ≡ self.old.works.content)) }
         ensures build { OnOk result (self.new ≡ built.with_works (built.handed self.old.works).1 self.old) }
         ensures err { OnErr result (self.new ≡ self.old) }
+
+        // Memory is wanted only where an object is handed.
+        ensures memory { OnErr result (IsSome (built.handed self.old.works).0) }
     {
         if !self.is_open {
             return Ok(None);
@@ -278,6 +286,7 @@ impl Build {
         put_node(&mut self.graph, alloc, &obj, &node)?;
         let Err(refused) = self.stock.keep(alloc, node) else {
             self.expanded = self.expanded.saturating_add(1);
+            self.next = None;
             return Ok(self.stock.waiting() as u64);
         };
         self.graph.drop_obj(&obj);
@@ -320,6 +329,8 @@ impl Build {
             ≡ built.with_works
             (built.put expanded.value.obj expanded.value.notes self.old.works).1 self.old) }
         ensures err { OnErr result (self.new ≡ self.old) }
+        ensures asked { OnErr result (IsTrue (built.waits_by self.old.works.content self.old.works.work
+            expanded.value.obj)) }
     {
         if !self.is_open {
             return Ok(Put::Unasked);
@@ -331,7 +342,8 @@ impl Build {
     }
 
     /// Takes back an expansion, from whatever version of the site: it is kept where its object waits
-    /// and no note is stale. One of a site with another frame is refused first, and takes no memory.
+    /// and no note is stale. One of a site with another frame is refused first. That takes no memory, nor
+    /// does one that isn't asked for.
     ///
     /// The cost is a comparison of the two sites' frames, a look-up for each note and for what the object
     /// embeds, and a walk over what is found by it.
@@ -351,6 +363,11 @@ impl Build {
             ≡ built.with_works
             (built.put expanded.value.obj expanded.value.notes self.old.works).1 self.old) }
         ensures err { OnErr result (self.new ≡ self.old) }
+
+        // Memory is wanted only where the frames are the same and the object waits.
+        ensures memory { OnErr result (expanded.value.frame ≡ self.old.works.content.frame) }
+        ensures asked { OnErr result (IsTrue (built.waits_by self.old.works.content self.old.works.work
+            expanded.value.obj)) }
     {
         if !self.stock.has_frame_of(&expanded) {
             return Ok(Put::Foreign);
@@ -358,7 +375,7 @@ impl Build {
         self.put_known(alloc, expanded)
     }
 
-    // Puts in the looks of the next level: all of them, or none.
+    // Puts in the looks of the next level, all of them or none, and plans the level above.
     pub(crate) fn join_level(
         &mut self,
         alloc: Global,
@@ -381,6 +398,7 @@ impl Build {
         self.once.add_all(&fresh)?;
         let Err(refused) = self.stock.join(level, looks) else {
             self.joined = self.joined.saturating_add(level.len() as u64);
+            self.next = plan(alloc, &self.stock, &self.graph, level);
             return Ok(());
         };
         self.once.remove_all(&fresh);
@@ -396,7 +414,7 @@ impl Build {
         ensures build { OnOk result (self.new ≡ built.with_works (built.joins self.old.works).1 self.old) }
         ensures err { OnErr result (self.new ≡ self.old) }
     {
-        let level = self.stock.level(alloc)?;
+        let level = level_of(alloc, &self.stock, &self.next)?;
         let looks = level_looks(rt, alloc, &self.stock, &level)?;
         self.join_level(alloc, &level, &looks)?;
         Ok(Joined::Level(level.as_slice().len() as u64))
@@ -405,8 +423,9 @@ impl Build {
     /// Gives looks to all found objects without one whose embedded objects all have looks, in as many
     /// threads as there are processors. The answer is the same for any number of threads.
     ///
-    /// The cost is a search for each found object without a look and for what it embeds, and that of
-    /// joining those of the level.
+    /// The cost is that of joining the level, and a search for each object that embeds one of it and for
+    /// what that embeds, until one has no look. The first level of a work, or one after memory ran out,
+    /// costs that search for each found object without a look.
     pub fn join(&mut self, rt: &(impl Threads + Sync), alloc: Global) -> Result<Joined, NoMemory>
         ensures told { IfOk result (λ told. joined_told told ≡ (built.joins self.old.works).0) }
         ensures build { OnOk result (self.new ≡ built.with_works (built.joins self.old.works).1 self.old) }
@@ -433,6 +452,7 @@ impl Build {
         ensures told { IfOk result (λ told. finish_told told ≡ (built.finished self.old.works).0) }
         ensures touched { IfOk result (λ told. ForTouched told
             (AreTouched (built.once_by self.old.works.work) self.old.pages self.new.pages)) }
+        ensures order { IfOk result (λ told. ForTouched told (IsStrictlySortedBy text_cmp)) }
         ensures elsewhere { IfOk result (λ told. ForTouched told (λ paths.
             SameElsewhere paths self.old.pages self.new.pages)) }
         ensures build { OnOk result (self.new ≡ built.closed (built.finished self.old.works) self.old) }
@@ -451,6 +471,7 @@ impl Build {
         let gone = self.stock.forget(alloc)?;
         drop_all(&mut self.graph, &gone);
         self.target = Some(target);
+        self.next = None;
         self.is_open = false;
         Ok(Finish::Report {
             version,
@@ -462,7 +483,7 @@ impl Build {
     }
 
     /// Closes the open work, where all that is found has a look: its looks are the target. A report
-    /// tells the touched paths, away from which the target is as it was.
+    /// tells the touched paths in path order, away from which the target is as it was.
     ///
     /// The cost is that of listing the pages, of one walk over them and the last target's, side by side,
     /// and of one over what is kept; no bytes are compared or copied.
@@ -470,6 +491,7 @@ impl Build {
         ensures told { IfOk result (λ told. finish_told told ≡ (built.finished self.old.works).0) }
         ensures touched { IfOk result (λ told. ForTouched told
             (AreTouched (built.once_by self.old.works.work) self.old.pages self.new.pages)) }
+        ensures order { IfOk result (λ told. ForTouched told (IsStrictlySortedBy text_cmp)) }
         ensures elsewhere { IfOk result (λ told. ForTouched told (λ paths.
             SameElsewhere paths self.old.pages self.new.pages)) }
         ensures build { OnOk result (self.new ≡ built.closed (built.finished self.old.works) self.old) }

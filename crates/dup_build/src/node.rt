@@ -37,7 +37,7 @@ fn objs_held(alloc: Global, pieces: &[Piece]) -> Result<Vec<Obj>, NoMemory>
 }
 
 /// These objects in their order, each once.
-fn objs_in_order(objs: Vec<Obj>) -> Vec<Obj>
+pub(crate) fn objs_in_order(objs: Vec<Obj>) -> Vec<Obj>
     ensures { result.items ≡ in_order obj_cmp objs.items }
 {
     let mut objs = objs;

@@ -3,6 +3,7 @@ ghost use Rattle.std.specs.Prelude.{◌≡◌, ◌++◌, ◌∷◌, [], ◌&&◌
 ghost use Rattle.dup_names.specs.Objects.{is_in, same_obj};
 ghost use Rattle.dup_build.specs.Paths.{AreTouched};
 ghost use Rattle.std.specs.FinMap.Entries.{is_sorted};
+ghost use Rattle.std.specs.List.Sorted.{IsStrictlySortedBy};
 ghost use Rattle.dup_names.specs.Order.{text_cmp};
 ghost use Rattle.dup_build.specs.Targets.{looks_by_path, pages_in};
 
@@ -73,8 +74,9 @@ pub(crate) fn touched_paths(
 ) -> Result<Vec<Path>, NoMemory>
     requires old { IsTrue (is_sorted text_cmp (looks_by_path old.now)) }
     requires new { IsTrue (is_sorted text_cmp (looks_by_path new.now)) }
-    ensures { IfOk result (λ made.
+    ensures touched { IfOk result (λ made.
         AreTouched once.now (looks_by_path old.now) (looks_by_path new.now) made.items) }
+    ensures order { IfOk result (λ made. IsStrictlySortedBy text_cmp made.items) }
 {
     let mut paths = Vec::new(alloc);
     let mut old_at = 0;

@@ -15,7 +15,7 @@ ghost use Rattle.dup_model.specs.Touched.{without, touched, affected};
 ghost use Rattle.dup_model.specs.Found.{found, waiting};
 ghost use Rattle.dup_machine.specs.Works.{next_of};
 ghost use Rattle.dup_model.specs.Expansions.{stale as stale_note};
-ghost use Rattle.std.specs.List.{list_all};
+ghost use Rattle.std.specs.List.{filter, list_all, list_any};
 ghost use Rattle.dup_model.specs.Looks.{look};
 ghost use Rattle.dup_model.specs.Skeletons.{embeds};
 ghost use Rattle.dup_join.specs.Jobs.{look_of};
@@ -52,7 +52,7 @@ pub(crate) struct Stock {
     content: Content,
     nodes: Table<Node>,
     looks: Table<Shown>,
-    open: Open,
+    progress: Open,
 }
 
 impl Model for Stock {
@@ -68,7 +68,7 @@ impl Model for Stock {
 
     ghost view = { λ a. record { content = a.content; done = objs a.nodes; looked = objs a.looks } };
 
-    ghost invariant = { λ a. IsStock a.content a.nodes a.looks a.open };
+    ghost invariant = { λ a. IsStock a.content a.nodes a.looks a.progress };
 }
 
 fn site_known(content: &Content)
@@ -259,12 +259,12 @@ impl Stock {
         let nodes = Table::new(alloc);
         let looks = Table::new(alloc);
         let none = ObjSet::new(alloc);
-        let open = survey(alloc, &content, &nodes, &none, &looks, &none)?;
+        let progress = survey(alloc, &content, &nodes, &none, &looks, &none)?;
         Ok(Stock {
             content,
             nodes,
             looks,
-            open,
+            progress,
         })
     }
 
@@ -291,14 +291,14 @@ impl Stock {
     {
         site_known(&self.content);
         site_known(content);
-        let open = survey(alloc, content, &self.nodes, dropped, &self.looks, stale)?;
+        let progress = survey(alloc, content, &self.nodes, dropped, &self.looks, stale)?;
         let dropped = dropped.list(alloc)?;
         let stale = stale.list(alloc)?;
         let content = content.copy(alloc)?;
         self.nodes.remove_all(&dropped);
         self.looks.remove_all(&stale);
         self.content = content;
-        self.open = open;
+        self.progress = progress;
         Ok(())
     }
 
@@ -318,14 +318,14 @@ impl Stock {
     pub(crate) fn waiting(&self) -> usize
         ensures { result ≡ length (waiting_in self.now) }
     {
-        self.open.waiting.len()
+        self.progress.waiting.len()
     }
 
     /// How many found objects have no look.
     pub(crate) fn unjoined(&self) -> usize
         ensures { result ≡ length (unjoined_in self.now) }
     {
-        self.open.unjoined.len()
+        self.progress.unjoined.len()
     }
 
     /// Whether an expansion is of a site with the content's frame.
@@ -339,7 +339,7 @@ impl Stock {
     pub(crate) fn waits(&self, obj: &Obj) -> bool
         ensures { result ≡ is_in (waiting_in self.now) obj.now }
     {
-        self.open.waiting.contains(obj)
+        self.progress.waiting.contains(obj)
     }
 
     /// The least waiting object after the last one, or the least of all.
@@ -347,7 +347,7 @@ impl Stock {
         ensures value { result ≡ next_of last.now (waiting_in self.now) }
         ensures waits { IfSome result (λ obj. IsTrue (is_in (waiting_in self.now) obj)) }
     {
-        self.open.waiting.next(last)
+        self.progress.waiting.next(last)
     }
 
     /// The job of a waiting object.
@@ -389,7 +389,7 @@ impl Stock {
             alloc,
             &self.nodes,
             &none,
-            &self.open.found,
+            &self.progress.found,
             node.children.items(),
         )?;
         let found = fresh.list(alloc)?;
@@ -420,13 +420,13 @@ impl Stock {
     {
         site_known(&self.content);
         self.nodes.add(obj, node)?;
-        let Err(refused) = self.open.grow(
+        let Err(refused) = self.progress.grow(
             news.found.items(),
             news.waiting.items(),
             news.unjoined.items(),
         )
         else {
-            self.open.waiting.remove(&obj);
+            self.progress.waiting.remove(&obj);
             return Ok(());
         };
         self.nodes.remove(&obj);
@@ -456,18 +456,37 @@ impl Stock {
         all_in(node_children(&self.nodes, obj), &self.looks)
     }
 
-    /// The found objects without a look whose embedded objects all have looks.
+    // Whether an object stands in the next level.
+    fn is_next(&self, obj: &Obj) -> bool
+        requires { waiting_in self.now ≡ [] }
+        ensures { result ≡ is_in (level_in self.now) obj.now }
+    {
+        self.progress.unjoined.contains(obj) && self.is_ready(obj)
+    }
+
+    /// Those of these objects that stand in the next level. The cost is a search for each of them, and
+    /// for what it embeds, until one has no look.
+    pub(crate) fn next_among(&self, alloc: Global, objs: &[Obj]) -> Result<Vec<Obj>, NoMemory>
+        requires { waiting_in self.now ≡ [] }
+        ensures { IfOk result (λ made. made.items ≡ filter (is_in (level_in self.now)) objs.now) }
+    {
+        let mut made = Vec::new(alloc);
+        for obj in objs {
+            if self.is_next(obj) {
+                made.push(*obj)?;
+            }
+        }
+        Ok(made)
+    }
+
+    /// The next level: the found objects without a look whose embedded objects all have looks. Each
+    /// found object without a look is tried.
     pub(crate) fn level(&self, alloc: Global) -> Result<Vec<Obj>, NoMemory>
         requires { waiting_in self.now ≡ [] }
         ensures { IfOk result (λ level. level.items ≡ level_in self.now) }
     {
-        let unjoined = self.open.unjoined.list(alloc)?;
-        let mut level = Vec::new(alloc);
-        for obj in &unjoined {
-            if self.is_ready(obj) {
-                level.push(*obj)?;
-            }
-        }
+        let unjoined = self.progress.unjoined.list(alloc)?;
+        let level = self.next_among(alloc, &unjoined)?;
         Ok(level)
     }
 
@@ -501,7 +520,8 @@ impl Stock {
         })
     }
 
-    /// Puts in the looks of a level: all of them, or none. The cost is that of the level.
+    /// Puts in the looks of a level: all of them, or none. Each object of the level that is next then
+    /// embeds one of this level. The cost is that of the level.
     pub(crate) fn join(
         &mut self,
         level: &[Obj],
@@ -512,10 +532,12 @@ impl Stock {
         requires looks { map (λ l. l.value) looks.now ≡ map (look self.old.content) level.now }
         ensures ok { OnOk result (self.new
             ≡ record self.old { looked = in_order obj_cmp (level.now ++ self.old.looked) }) }
+        ensures above { OnOk result ((o : Obj) → IsTrue (is_in (level_in self.new) o) →
+            IsTrue (list_any (is_in (embeds self.old.content o)) level.now)) }
         ensures err { OnErr result (self.new ≡ self.old) }
     {
         add_looks(&mut self.looks, level, looks)?;
-        self.open.unjoined.remove_all(level);
+        self.progress.unjoined.remove_all(level);
         Ok(())
     }
 
@@ -534,7 +556,7 @@ impl Stock {
         self.nodes.len();
         self.looks.len();
         let known = self.nodes.list(alloc)?;
-        let gone = self.open.found.lacking(alloc, &known)?;
+        let gone = self.progress.found.lacking(alloc, &known)?;
         self.nodes.remove_all(&gone);
         self.looks.remove_all(&gone);
         Ok(gone)
@@ -554,7 +576,7 @@ impl Stock {
         requires { waiting_in self.now ≡ [] }
         ensures { IfOk result (λ kept. kept ≡ length (without (is_in once.now) (live self.now.content))) }
     {
-        let found = self.open.found.list(alloc)?;
+        let found = self.progress.found.list(alloc)?;
         let kept = once.lacking(alloc, &found)?;
         Ok(kept.as_slice().len())
     }

@@ -1,5 +1,6 @@
 use Rattle.std.proofs.Common.{◌≡◌, Bool, true, cond, List, [], Some, None, length, sym, ap, subst, ◌∙◌}
 use Rattle.std.specs.List.{All}
+use Rattle.std.specs.List.Sorted.{IsStrictlySortedBy}
 use Rattle.dup_names.specs.Words.{Path}
 use Rattle.dup_model.specs.Pages.{live, page_looks}
 use Rattle.dup_names.specs.Order.{text_cmp}
@@ -10,12 +11,12 @@ use Rattle.dup_machine.specs.World.{Ended}
 use Rattle.dup_machine.specs.Builds.{Build, finished_in}
 use Rattle.dup_model.specs.Found.{waiting}
 use Rattle.dup_machine.specs.Works.{unjoined}
-use Rattle.dup_build.specs.Build.{IsBuild, work_in}
+use Rattle.dup_build.specs.Build.{IsBuild, work_in, works_in}
 use Rattle.dup_build.specs.Paths.{AreTouched, IsCurrent, SameElsewhere, looks_in}
 use Rattle.dup_build.specs.Targets.{looks_by_path, looks_of, pages_in}
 use Rattle.dup_build.proofs.Showing.{current_elsewhere, target_current}
 use Rattle.dup_build.proofs.Rising.{page_looks_rise}
-use Rattle.dup_build.specs.Built.{Built, once_by, waiting_by, unjoined_by, finished}
+use Rattle.dup_build.specs.Built.{Built, closed, once_by, waiting_by, unjoined_by, finished}
 use Rattle.dup_build.proofs.Builds.{open_from, finished_open}
 use Rattle.std.proofs.Common.{inl, inr}
 use Rattle.std.proofs.lemmas.Bool.{true≢false, cases_Bool}
@@ -57,7 +58,10 @@ returns-clause-touched c =
     subst (λ (ps : List Path). AreTouched (once_by c.args.self.now.works.work) c.args.self.now.pages (looks_of c.in_ok-target.target) ps) (sym c.of.ensures)
     (subst (λ os. AreTouched os c.args.self.now.pages (looks_of c.in_ok-target.target) c.in_ok-touched.touched.items) (sym (ap once_by work_is))
     (subst (λ pages. AreTouched c.self.inside.once c.args.self.now.pages pages c.in_ok-touched.touched.items) new
-    (subst (λ pages. AreTouched c.self.inside.once pages (looks_by_path c.items.result.now) c.in_ok-touched.touched.items) old c.in_ok-touched.ensures)))
+    (subst (λ pages. AreTouched c.self.inside.once pages (looks_by_path c.items.result.now) c.in_ok-touched.touched.items) old c.in_ok-touched.ensures.touched)))
+
+pub returns-clause-order : goal.returns-clause-order
+returns-clause-order c = subst (IsStrictlySortedBy text_cmp) (sym c.of.ensures) c.in_ok-touched.ensures.order
 
 pub returns-clause-elsewhere : goal.returns-clause-elsewhere
 returns-clause-elsewhere c =
@@ -69,7 +73,7 @@ returns-clause-elsewhere c =
     subst (λ (o : Bool). All (IsCurrent c.self.inside.stock.content c.self.inside.stock.looked (cond o c.self.inside.once [])) (looks_in (pages_in c.self.inside.target))) open_is c.self.invariant.shown in
     let touched : AreTouched c.self.inside.once (pages_in c.self.inside.target) (page_looks c.self.inside.stock.content) c.in_ok-touched.touched.items =
     subst (λ pages. AreTouched c.self.inside.once pages (page_looks c.self.inside.stock.content) c.in_ok-touched.touched.items) c.pages_of.ensures
-    (subst (λ pages. AreTouched c.self.inside.once (looks_by_path c.pages_of.result.now) pages c.in_ok-touched.touched.items) (ap looks_by_path c.items.ensures ∙ c.in_ok-target.ensures.looks) c.in_ok-touched.ensures) in
+    (subst (λ pages. AreTouched c.self.inside.once (looks_by_path c.pages_of.result.now) pages c.in_ok-touched.touched.items) (ap looks_by_path c.items.ensures ∙ c.in_ok-target.ensures.looks) c.in_ok-touched.ensures.touched) in
     subst (λ (ps : List Path). SameElsewhere ps c.args.self.now.pages (looks_of c.in_ok-target.target)) (sym c.of.ensures)
     (subst (λ pages. SameElsewhere c.in_ok-touched.touched.items pages (looks_of c.in_ok-target.target)) (ap (λ (b : Built). b.pages) c.self.view_is)
     (subst (λ pages. SameElsewhere c.in_ok-touched.touched.items (pages_in c.self.inside.target) pages) (sym c.in_ok-target.ensures.looks)
@@ -89,6 +93,21 @@ returns-clause-told c =
     (λ i. Ended.Report (record { version = c.self.inside.version; expanded = c.self.inside.expanded; joined = c.self.inside.joined; kept = kept i }))
     ∙ sym (ap (λ (x : Ended × Build). x.0) whole)
 
+pub returns-clause-build : goal.returns-clause-build
+returns-clause-build c =
+    let open_is : c.self.inside.is_open ≡ true = open_from c.self.inside.is_open (work_in c.self.inside) c.args.self.now.works.work (ap (λ (b : Built). b.works.work) c.self.view_is) c.requires.busy in
+    let work_is : c.args.self.now.works.work ≡ Some (work_in c.self.inside) = ap (λ (b : Built). b.works.work) (sym c.self.view_is) ∙ ap (λ (o : Bool). cond o (Some (work_in c.self.inside)) None) open_is in
+    let calm : waiting c.args.self.now.works.content c.self.inside.stock.done ≡ [] = ap (waiting_by c.args.self.now.works.content) (sym work_is) ∙ c.requires.calm in
+    let joined : unjoined c.args.self.now.works.content (work_in c.self.inside) ≡ [] = ap (unjoined_by c.args.self.now.works.content) (sym work_is) ∙ c.requires.joined in
+    let whole : finished c.args.self.now.works ≡ finished_in (work_in c.self.inside) [] [] c.args.self.now.works =
+    finished_open c.args.self.now.works (work_in c.self.inside) work_is ∙ (λ i. finished_in (work_in c.self.inside) (calm i) (joined i) c.args.self.now.works) in
+    (λ i. record {
+      works = record (works_in c.self.inside) { content = (c.in_ok-gone.ensures.ok i).content; target = Some (c.in_ok-target.ensures.version i); work = None };
+      pages = c.in_ok-target.ensures.looks i;
+    })
+    ∙ ap (λ (b : Built). let v : Built = record { works = record b.works { target = Some c.self.inside.version; work = None }; pages = page_looks b.works.content } in v) c.self.view_is
+    ∙ sym (ap (λ (x : Ended × Build). closed x c.args.self.now) whole)
+
 pub invariant_of-self-2 : goal.invariant_of-self-2
 invariant_of-self-2 c =
     let open_is : c.self.inside.is_open ≡ true = open_from c.self.inside.is_open (work_in c.self.inside) c.args.self.now.works.work (ap (λ (b : Built). b.works.work) c.self.view_is) c.requires.busy in
@@ -102,6 +121,7 @@ invariant_of-self-2 c =
     record {
       is_done = ap (λ (s : Stocked). s.done) ok ∙ sym (ap (λ (s : Stocked). live s.content) ok);
       is_looked = ap (λ (s : Stocked). s.looked) ok ∙ sym (ap (λ (s : Stocked). live s.content) ok);
+      planned = tt;
       rising = ap (is_sorted text_cmp) c.in_ok-target.ensures.looks ∙ page_looks_rise c.self.inside.stock.content;
       shown = subst (λ (s : Stocked). All (IsCurrent s.content s.looked []) (looks_in (looks_of c.in_ok-target.target))) (sym ok)
           (subst (λ pages. All (IsCurrent c.self.inside.stock.content (live c.self.inside.stock.content) []) (looks_in pages)) (sym c.in_ok-target.ensures.looks)

@@ -2,17 +2,18 @@ use Rattle.std.proofs.Common.{◌≡◌, ◌++◌, Bool, true, cond, List, [], S
 use Rattle.dup_names.specs.Order.{obj_cmp}
 use Rattle.dup_names.specs.Words.{in_order}
 use Rattle.dup_names.specs.Objects.{is_in}
+use Rattle.dup_model.specs.Skeletons.{embeds}
 use Rattle.dup_model.specs.Touched.{without}
 use Rattle.dup_machine.specs.Works.{more, with_joined}
-use Rattle.std.specs.List.{All}
+use Rattle.std.specs.List.{All, list_any}
 use Rattle.std.specs.Option.{option_map}
 use Rattle.dup_names.specs.declared.object.Obj.{Obj}
 use Rattle.dup_names.specs.declared.value.Look.{Look}
 use Rattle.dup_walk.specs.OverReads.{HasReads}
 use Rattle.dup_build.specs.Build.{IsBuild, as_built, work_in, works_in}
-use Rattle.dup_build.specs.Built.{Built, done_by, level_by, looked_by}
+use Rattle.dup_build.specs.Built.{Built, done_by, level_by, looked_by, waiting_by}
 use Rattle.dup_build.specs.Paths.{IsCurrent, looks_in}
-use Rattle.dup_build.specs.Stocked.{Stocked}
+use Rattle.dup_build.specs.Stocked.{Stocked, level_in, waiting_in}
 use Rattle.dup_build.specs.Targets.{pages_in}
 use Rattle.dup_build.proofs.Builds.{open_from}
 use Rattle.dup_build.proofs.Showing.{current_joined}
@@ -85,6 +86,7 @@ invariant_of-self-in_default c =
       is_done = ap (λ (o : Bool). done_by c.join.new.self.content (option_map (λ t. t.version) c.self.inside.target) (cond o (Some (work_in after)) None)) (sym open_is);
       is_looked = ap (λ (o : Bool). looked_by c.join.new.self.content (option_map (λ t. t.version) c.self.inside.target) (cond o (Some (work_in after)) None)) (sym open_is);
       reads = subst (λ (s : Stocked). HasReads s.content s.done c.self.inside.graph) (sym c.in_default.ensures.ok) c.self.invariant.reads;
+      planned = c.plan.ensures;
       rising = c.self.invariant.rising;
       shown = subst (λ (s : Stocked). All (IsCurrent s.content s.looked (cond c.self.inside.is_open c.add_all.new.self [])) looks) (sym c.in_default.ensures.ok)
           (subst (λ (o : Bool). All (IsCurrent c.self.inside.stock.content (in_order obj_cmp (c.args.level.now ++ c.self.inside.stock.looked)) (cond o c.add_all.new.self [])) looks) (sym open_is) now);
@@ -98,3 +100,16 @@ invariant_of-self-2 c =
     ∙ all_back c.deref.result.now c.self.inside.once c.len.ensures.rising (λ x h. lacking_apart c.args.level.now c.self.inside.once x (ap (λ l. is_in l x) (sym fresh) ∙ h)) in
     subst (λ (s : Stocked). IsBuild (record c.self.inside { stock = s; once = c.remove_all.new.self })) (sym c.in-Err.ensures.err)
     (subst (λ (os : List Obj). IsBuild (record c.self.inside { once = os })) (sym once) c.self.invariant)
+
+pub plan-requires-clause-reads : goal.plan-requires-clause-reads
+plan-requires-clause-reads c = subst (λ (s : Stocked). HasReads s.content s.done c.self.inside.graph) (sym c.in_default.ensures.ok) c.self.invariant.reads
+
+pub plan-requires-clause-above : goal.plan-requires-clause-above
+plan-requires-clause-above c = subst (λ (s : Stocked). (o : Obj) → is_in (level_in c.join.new.self) o ≡ true → list_any (is_in (embeds s.content o)) c.args.level.now ≡ true) (sym c.in_default.ensures.ok) c.in_default.ensures.above
+
+pub plan-requires-clause-calm : goal.plan-requires-clause-calm
+plan-requires-clause-calm c =
+    let open_is : c.self.inside.is_open ≡ true = open_from c.self.inside.is_open (work_in c.self.inside) c.args.self.now.works.work (ap (λ (b : Built). b.works.work) c.self.view_is) c.requires.busy in
+    ap waiting_in c.in_default.ensures.ok
+    ∙ ap (λ (o : Bool). waiting_by c.self.inside.stock.content (cond o (Some (work_in c.self.inside)) None)) (sym open_is)
+    ∙ ap (λ (b : Built). waiting_by b.works.content b.works.work) c.self.view_is ∙ c.requires.calm

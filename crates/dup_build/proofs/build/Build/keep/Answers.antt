@@ -33,6 +33,7 @@ invariant_of-self-in_default c =
     record {
       is_done = ap (λ (o : Bool). done_by c.keep.new.self.content (option_map (λ t. t.version) c.self.inside.target) (cond o (Some (work_in after)) None)) (sym open_is);
       is_looked = ap (λ (o : Bool). looked_by c.keep.new.self.content (option_map (λ t. t.version) c.self.inside.target) (cond o (Some (work_in after)) None)) (sym open_is);
+      planned = tt;
       rising = c.self.invariant.rising;
       shown = subst (λ (s : Stocked). All (IsCurrent s.content s.looked (once_in c.self.inside)) (looks_in (pages_in c.self.inside.target))) (sym c.in_default.ensures.ok) c.self.invariant.shown;
       reads = subst (λ (s : Stocked). HasReads s.content s.done c.put_node.new.graph) (sym c.in_default.ensures.ok)
@@ -55,6 +56,7 @@ invariant_of-self-2 c =
     subst (λ (s : Stocked). IsBuild (record c.self.inside { stock = s; graph = c.drop_obj.new.self })) (sym c.in-Err.ensures.err) (record {
       is_done = c.self.invariant.is_done;
       is_looked = c.self.invariant.is_looked;
+      planned = c.self.invariant.planned;
       rising = c.self.invariant.rising;
       shown = c.self.invariant.shown;
       reads = subst (λ (g : Nodes). HasReads c.self.inside.stock.content c.self.inside.stock.done g)

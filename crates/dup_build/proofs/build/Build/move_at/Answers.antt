@@ -29,6 +29,7 @@ invariant_of-self-2 c =
     record {
       is_done = ap (λ (o : Bool). done_by c.move_to.new.self.content (option_map (λ t. t.version) c.self.inside.target) (cond o (Some (work_in after)) None)) (sym open_is);
       is_looked = ap (λ (o : Bool). looked_by c.move_to.new.self.content (option_map (λ t. t.version) c.self.inside.target) (cond o (Some (work_in after)) None)) (sym open_is);
+      planned = tt;
       rising = c.self.invariant.rising;
       shown = subst (λ (s : Stocked). All (IsCurrent s.content s.looked (once_in c.self.inside)) (looks_in (pages_in c.self.inside.target))) (sym c.in_ok-move_to.ensures.ok)
           (current_moved c.self.inside.stock.content c.args.content.now (ap (λ (b : Built). b.works.content.frame) c.self.view_is ∙ c.requires.frame) c.self.inside.stock.looked (once_in c.self.inside)

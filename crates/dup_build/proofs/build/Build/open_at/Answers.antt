@@ -32,6 +32,7 @@ invariant_of-self-2 c =
     record {
       is_done = refl;
       is_looked = refl;
+      planned = tt;
       rising = c.self.invariant.rising;
       shown = subst (λ (s : Stocked). All (IsCurrent s.content s.looked c.new.result) looks) (sym c.in_ok-move_to.ensures.ok)
           (current_opened c.args.content.now (without (affected c.self.inside.stock.content c.args.content.now) c.self.inside.stock.looked) c.new.result looks c.new.ensures

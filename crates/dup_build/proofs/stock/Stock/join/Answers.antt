@@ -8,6 +8,7 @@ use Rattle.dup_sets.specs.Entries.{objs}
 use Rattle.dup_build.specs.Looked.{look_at, last_look}
 use Rattle.dup_build.specs.Stocked.{Stocked, waiting_in, level_in}
 use Rattle.dup_build.proofs.Joining.{level_apart, objs_looked, objs_of_values, joined_stock}
+use Rattle.dup_build.proofs.Planning.{next_above}
 use Rattle.dup_build.proofs.stock.Stock.join.Goals as goal
 
 pub add_looks-requires-clause-level : goal.add_looks-requires-clause-level
@@ -21,8 +22,8 @@ add_looks-requires-clause-apart c = λ x h.
 pub invariant_of-self-2 : goal.invariant_of-self-2
 invariant_of-self-2 c =
     let calm : waiting c.self.inside.content (objs c.self.inside.nodes) ≡ [] = ap waiting_in c.self.view_is ∙ c.requires.calm in
-    joined_stock c.self.inside.content c.self.inside.nodes c.self.inside.looks c.self.inside.open c.self.invariant calm c.add_looks.new.looks
-    (record { found = c.self.inside.open.found; waiting = c.self.inside.open.waiting; unjoined = c.remove_all.new.self }) c.args.level.now
+    joined_stock c.self.inside.content c.self.inside.nodes c.self.inside.looks c.self.inside.progress c.self.invariant calm c.add_looks.new.looks
+    (record { found = c.self.inside.progress.found; waiting = c.self.inside.progress.waiting; unjoined = c.remove_all.new.self }) c.args.level.now
     (c.requires.level ∙ ap level_in (sym c.self.view_is)) c.in_ok-add_looks.ensures.objs
     (λ q. c.in_ok-add_looks.ensures.looks q ∙ ap (last_look q (look_at c.self.inside.looks q)) (c.requires.looks ∙ ap (λ (s : Stocked). map (look s.content) c.args.level.now) (sym c.self.view_is)))
     refl refl c.remove_all.ensures
@@ -32,3 +33,12 @@ returns-clause-ok c =
     let looked : objs c.add_looks.new.looks ≡ in_order obj_cmp (c.args.level.now ++ c.args.self.now.looked) =
     c.in_ok-add_looks.ensures.objs ∙ ap (λ (s : Stocked). in_order obj_cmp (c.args.level.now ++ s.looked)) c.self.view_is in
     λ i. record { content = (c.self.view_is i).content; done = (c.self.view_is i).done; looked = looked i }
+
+pub returns-clause-above : goal.returns-clause-above
+returns-clause-above c =
+    let looked : objs c.add_looks.new.looks ≡ in_order obj_cmp (c.args.level.now ++ c.args.self.now.looked) =
+    c.in_ok-add_looks.ensures.objs ∙ ap (λ (s : Stocked). in_order obj_cmp (c.args.level.now ++ s.looked)) c.self.view_is in
+    let after : Stocked = record { content = c.self.inside.content; done = objs c.self.inside.nodes; looked = objs c.add_looks.new.looks } in
+    let is : after ≡ record c.args.self.now { looked = in_order obj_cmp (c.args.level.now ++ c.args.self.now.looked) } =
+    λ i. record { content = (c.self.view_is i).content; done = (c.self.view_is i).done; looked = looked i } in
+    λ o h. next_above c.args.self.now c.args.level.now c.requires.level o (ap (λ (s : Stocked). is_in (level_in s) o) (sym is) ∙ h)

@@ -24,14 +24,14 @@ invariant_of-self c =
     left_from _ _ _ _ _ _ _ c.self.view_is c.requires.frame c.requires.dropped c.requires.stale in
     let dropped : c.deref.result.now ≡ c.args.dropped.now = c.deref.ensures.value ∙ c.in_ok-dropped.ensures in
     let stale : c.deref-2.result.now ≡ c.args.stale.now = c.deref-2.ensures.value ∙ c.in_ok-stale.ensures in
-    subst (λ (x : Content). IsStock x c.remove_all.new.self c.remove_all-2.new.self c.in_ok-open.open) (sym c.in_ok-content.ensures)
-    (moved_stock c.self.inside.content c.args.content.now e.frames c.site_known.ensures.earlier c.self.inside.nodes c.self.inside.looks c.self.inside.open c.self.invariant
-    c.requires.keys c.args.dropped.now c.args.stale.now e.drops e.stales c.remove_all.new.self c.remove_all-2.new.self c.in_ok-open.open
+    subst (λ (x : Content). IsStock x c.remove_all.new.self c.remove_all-2.new.self c.in_ok-progress.progress) (sym c.in_ok-content.ensures)
+    (moved_stock c.self.inside.content c.args.content.now e.frames c.site_known.ensures.earlier c.self.inside.nodes c.self.inside.looks c.self.inside.progress c.self.invariant
+    c.requires.keys c.args.dropped.now c.args.stale.now e.drops e.stales c.remove_all.new.self c.remove_all-2.new.self c.in_ok-progress.progress
     (λ q. c.remove_all.ensures.at q ∙ ap (λ l. cond (is_in l q) None (at c.self.inside.nodes q)) dropped)
     (c.remove_all.ensures.objs ∙ ap (λ l. without (is_in l) (objs c.self.inside.nodes)) dropped)
     (λ q. c.remove_all-2.ensures.at q ∙ ap (λ l. cond (is_in l q) None (at c.self.inside.looks q)) stale)
     (c.remove_all-2.ensures.objs ∙ ap (λ l. without (is_in l) (objs c.self.inside.looks)) stale)
-    c.in_ok-open.ensures.found c.in_ok-open.ensures.waiting c.in_ok-open.ensures.unjoined)
+    c.in_ok-progress.ensures.found c.in_ok-progress.ensures.waiting c.in_ok-progress.ensures.unjoined)
 
 pub returns-clause-ok : goal.returns-clause-ok
 returns-clause-ok c =

@@ -14,7 +14,7 @@ pub returns-clause-found : goal.returns-clause-found
 returns-clause-found c = λ g.
     let listed : c.of.result ≡ c.in_ok-fresh.fresh = c.of.ensures ∙ c.in_ok-found.ensures in
     subst (λ (s : Stocked). (is_in c.of.result g ≡ true) ↔ Reached (opened s.content s.done) (is_in (found s.content s.done)) c.args.node.now.children g) c.self.view_is
-    (reached_over c.self.inside.content c.self.inside.nodes c.self.inside.looks c.self.inside.open c.self.invariant c.new-none.result c.new-none.ensures
+    (reached_over c.self.inside.content c.self.inside.nodes c.self.inside.looks c.self.inside.progress c.self.invariant c.new-none.result c.new-none.ensures
     c.args.node.now.children (is_in c.of.result g ≡ true) g
-    (subst (λ l. (is_in l g ≡ true) ↔ Reached (below c.self.inside.nodes c.new-none.result) (is_in c.self.inside.open.found) c.args.node.now.children g) (sym listed)
-    (subst (λ l. (is_in c.in_ok-fresh.fresh g ≡ true) ↔ Reached (below c.self.inside.nodes c.new-none.result) (is_in c.self.inside.open.found) l g) c.items.ensures (c.in_ok-fresh.ensures g))))
+    (subst (λ l. (is_in l g ≡ true) ↔ Reached (below c.self.inside.nodes c.new-none.result) (is_in c.self.inside.progress.found) c.args.node.now.children g) (sym listed)
+    (subst (λ l. (is_in c.in_ok-fresh.fresh g ≡ true) ↔ Reached (below c.self.inside.nodes c.new-none.result) (is_in c.self.inside.progress.found) l g) c.items.ensures (c.in_ok-fresh.ensures g))))
