@@ -24,6 +24,11 @@ abbrev pub ForTouched : Finish → (List Path → Type 0) → Type 0
 ForTouched (finish.Report v e j k touched) P = P touched
 ForTouched _ P = ⊤
 
+-- the work, if any, isn't closed
+abbrev pub IsUnclosed : Finish → Type 0
+IsUnclosed (finish.Report v e j k touched) = ⊥
+IsUnclosed _ = ⊤
+
 abbrev pub begun_told : Begun → machine.Begun
 begun_told (begun.Same v) = machine.Begun.Same v
 begun_told (begun.Nothing v) = machine.Begun.Nothing v

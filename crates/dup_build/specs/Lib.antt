@@ -7,3 +7,4 @@ pub mod Paths
 pub mod Built
 pub mod Answers
 pub mod Build
+pub mod Closing

@@ -1,6 +1,7 @@
 // What the calls of a build answer.
 use dup_lists::Listed;
 use dup_names::{Item, Path};
+use dup_render::Target;
 use dup_template::Value;
 
 /// What `begin` answers.
@@ -64,4 +65,14 @@ pub enum Finish {
         kept: u64,
         touched: Listed<Path>,
     },
+}
+
+/// What closing the open work comes to.
+#[derive(Drop)]
+pub struct Closing {
+    /// The target of the work's version.
+    pub target: Target,
+    /// The paths of the pages that are new or gone since the last target, and of those whose object the
+    /// work joined.
+    pub touched: Listed<Path>,
 }

@@ -1,5 +1,5 @@
 // Works, one after the other.
-ghost use Rattle.std.specs.Prelude.{◌≡◌, ◌≢◌, ◌↔◌, ◌<◌, length, [], IsTrue, IsSome, IfSome, None, Some, IfOk, OnOk, OnErr, map};
+ghost use Rattle.std.specs.Prelude.{◌≡◌, ◌≢◌, ◌↔◌, ◌<◌, length, [], IsTrue, IsSome, IfErr, IfSome, None, Some, IfOk, OnOk, OnErr, map};
 ghost use Rattle.std.specs.Option.{option_map};
 ghost use Rattle.dup_names.specs.declared.object.Obj.{Obj};
 ghost use Rattle.dup_model.specs.ChangedItems.{KeysAreKeys};
@@ -7,7 +7,7 @@ ghost use Rattle.dup_model.specs.Content.{start};
 ghost use Rattle.dup_model.specs.Looks.{look};
 ghost use Rattle.dup_names.specs.Objects.{is_in};
 ghost use Rattle.dup_model.specs.Touched.{touched, affected};
-ghost use Rattle.dup_build.specs.Answers.{begun_told, finish_told, joined_told, SaysPut, ForTouched};
+ghost use Rattle.dup_build.specs.Answers.{begun_told, finish_told, joined_told, ForTouched, IsUnclosed, SaysPut};
 ghost use Rattle.dup_machine.specs.Works.{with_joined};
 ghost use Rattle.dup_machine.specs.Works.{with_done};
 ghost use Rattle.dup_model.specs.Commits.{after};
@@ -19,8 +19,9 @@ ghost use Rattle.dup_names.specs.Order.{text_cmp};
 ghost use Rattle.dup_build.specs.Paths.{AreTouched, SameElsewhere};
 ghost use Rattle.dup_build.specs.Targets.{looks_of};
 ghost use Rattle.dup_build.specs.Built as built;
+ghost use Rattle.dup_build.specs.Closing.{IsClosing};
 
-use crate::answers::{Begun, Finish, Joined, Put};
+use crate::answers::{Begun, Closing, Finish, Joined, Put};
 use crate::hits::hits_of;
 use crate::job::Job;
 use crate::keyed::commits_keyed;
@@ -375,6 +376,13 @@ impl Build {
         self.put_known(alloc, expanded)
     }
 
+    /// How many objects have skeletons: where no work is open, all that are live at the target.
+    pub fn known(&self) -> u64
+        ensures { result ≡ length (built.done_in self.now.works) }
+    {
+        self.stock.known() as u64
+    }
+
     // Puts in the looks of the next level, all of them or none, and plans the level above.
     pub(crate) fn join_level(
         &mut self,
@@ -444,22 +452,14 @@ impl Build {
         self.join_next(rt, alloc)
     }
 
-    // Closes the open work, where all that is found has a look.
-    fn close(&mut self, alloc: Global) -> Result<Finish, NoMemory>
-        requires busy { IsSome self.old.works.work }
-        requires calm { built.waiting_by self.old.works.content self.old.works.work ≡ [] }
-        requires joined { built.unjoined_by self.old.works.content self.old.works.work ≡ [] }
-        ensures told { IfOk result (λ told. finish_told told ≡ (built.finished self.old.works).0) }
-        ensures touched { IfOk result (λ told. ForTouched told
-            (AreTouched (built.once_by self.old.works.work) self.old.pages self.new.pages)) }
-        ensures order { IfOk result (λ told. ForTouched told (IsStrictlySortedBy text_cmp)) }
-        ensures elsewhere { IfOk result (λ told. ForTouched told (λ paths.
-            SameElsewhere paths self.old.pages self.new.pages)) }
-        ensures build { OnOk result (self.new ≡ built.closed (built.finished self.old.works) self.old) }
-        ensures err { OnErr result (self.new ≡ self.old) }
+    // What closing the open work comes to, where all that is found has a look.
+    fn closing_now(&self, alloc: Global) -> Result<Closing, NoMemory>
+        requires busy { IsSome self.now.works.work }
+        requires calm { built.waiting_by self.now.works.content self.now.works.work ≡ [] }
+        requires joined { built.unjoined_by self.now.works.content self.now.works.work ≡ [] }
+        ensures { IfOk result (IsClosing self.now) }
     {
-        let version = self.version;
-        let target = self.stock.target(alloc, version)?;
+        let target = self.stock.target(alloc, self.version)?;
         self.stock.content();
         let touched = touched_paths(
             alloc,
@@ -467,10 +467,55 @@ impl Build {
             target.pages.items(),
             &self.once,
         )?;
+        Ok(Closing {
+            target,
+            touched: Listed::of(touched),
+        })
+    }
+
+    /// What closing the open work comes to, where all that is found has a look; else what `finish` answers.
+    /// Nothing is changed, and a work that can't be closed takes no memory.
+    ///
+    /// The cost is that of listing the pages, and of one walk over them and the last target's, side by side;
+    /// no bytes are compared or copied.
+    pub fn closing(&self, alloc: Global) -> Result<Result<Closing, Finish>, NoMemory>
+        ensures closing { IfOk result (λ told. IfOk told (IsClosing self.now)) }
+        ensures told { IfOk result (λ told. IfErr told (λ finish. finish_told finish
+            ≡ (built.finished self.now.works).0)) }
+        ensures stays { IfOk result (λ told. IfErr told (λ finish. IsUnclosed finish
+            × (built.closed (built.finished self.now.works) self.now ≡ self.now))) }
+    {
+        if !self.is_open {
+            return Ok(Err(Finish::Idle));
+        }
+        let waiting = self.stock.waiting();
+        if waiting > 0 {
+            return Ok(Err(Finish::Waiting(waiting as u64)));
+        }
+        let unjoined = self.stock.unjoined();
+        if unjoined > 0 {
+            return Ok(Err(Finish::Unjoined(unjoined as u64)));
+        }
+        let closing = self.closing_now(alloc)?;
+        Ok(Ok(closing))
+    }
+
+    /// Closes the open work, given what this comes to.
+    ///
+    /// The cost is that of one walk over what is kept.
+    pub fn close(&mut self, alloc: Global, closing: Closing) -> Result<Finish, NoMemory>
+        requires { IsClosing self.old closing }
+        ensures told { IfOk result (λ told. finish_told told ≡ (built.finished self.old.works).0) }
+        ensures touched { IfOk result (λ told. ForTouched told (λ paths. paths ≡ closing.touched)) }
+        ensures pages { OnOk result (self.new.pages ≡ looks_of closing.target) }
+        ensures build { OnOk result (self.new ≡ built.closed (built.finished self.old.works) self.old) }
+        ensures err { OnErr result (self.new ≡ self.old) }
+    {
         let kept = self.stock.kept(alloc, &self.once)? as u64;
         let gone = self.stock.forget(alloc)?;
         drop_all(&mut self.graph, &gone);
-        self.target = Some(target);
+        let version = self.version;
+        self.target = Some(closing.target);
         self.next = None;
         self.is_open = false;
         Ok(Finish::Report {
@@ -478,7 +523,7 @@ impl Build {
             expanded: self.expanded,
             joined: self.joined,
             kept,
-            touched: Listed::of(touched),
+            touched: closing.touched,
         })
     }
 
@@ -497,17 +542,12 @@ impl Build {
         ensures build { OnOk result (self.new ≡ built.closed (built.finished self.old.works) self.old) }
         ensures err { OnErr result (self.new ≡ self.old) }
     {
-        if !self.is_open {
-            return Ok(Finish::Idle);
+        match self.closing(alloc)? {
+            Err(finish) => Ok(finish),
+            Ok(closing) => {
+                let finish = self.close(alloc, closing)?;
+                Ok(finish)
+            }
         }
-        let waiting = self.stock.waiting();
-        if waiting > 0 {
-            return Ok(Finish::Waiting(waiting as u64));
-        }
-        let unjoined = self.stock.unjoined();
-        if unjoined > 0 {
-            return Ok(Finish::Unjoined(unjoined as u64));
-        }
-        self.close(alloc)
     }
 }

@@ -15,7 +15,7 @@ mod reads;
 mod stock;
 mod values;
 
-pub use answers::{Begun, Finish, Joined, Put};
+pub use answers::{Begun, Closing, Finish, Joined, Put};
 pub use build::Build;
 pub use job::Job;
 

@@ -562,6 +562,13 @@ impl Stock {
         Ok(gone)
     }
 
+    /// How many objects have skeletons.
+    pub(crate) fn known(&self) -> usize
+        ensures { result ≡ length self.now.done }
+    {
+        self.nodes.len()
+    }
+
     // The look of an object that has one.
     fn look(&self, obj: &Obj) -> Result<Arc<Look, Global>, NoMemory>
         requires { IsTrue (is_in self.now.looked obj.now) }

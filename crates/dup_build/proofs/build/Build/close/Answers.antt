@@ -43,43 +43,6 @@ forget-requires-clause-joined c =
     ap (λ (o : Bool). unjoined_by c.self.inside.stock.content (cond o (Some (work_in c.self.inside)) None)) (sym open_is)
     ∙ ap (λ (b : Built). unjoined_by b.works.content b.works.work) c.self.view_is ∙ c.requires.joined
 
-pub touched_paths-requires-clause-old : goal.touched_paths-requires-clause-old
-touched_paths-requires-clause-old c = ap (is_sorted text_cmp) c.pages_of.ensures ∙ c.self.invariant.rising
-
-pub touched_paths-requires-clause-new : goal.touched_paths-requires-clause-new
-touched_paths-requires-clause-new c = ap (is_sorted text_cmp) (ap looks_by_path c.items.ensures ∙ c.in_ok-target.ensures.looks) ∙ page_looks_rise c.self.inside.stock.content
-
-pub returns-clause-touched : goal.returns-clause-touched
-returns-clause-touched c =
-    let open_is : c.self.inside.is_open ≡ true = open_from c.self.inside.is_open (work_in c.self.inside) c.args.self.now.works.work (ap (λ (b : Built). b.works.work) c.self.view_is) c.requires.busy in
-    let work_is : c.args.self.now.works.work ≡ Some (work_in c.self.inside) = ap (λ (b : Built). b.works.work) (sym c.self.view_is) ∙ ap (λ (o : Bool). cond o (Some (work_in c.self.inside)) None) open_is in
-    let old : looks_by_path c.pages_of.result.now ≡ c.args.self.now.pages = c.pages_of.ensures ∙ ap (λ (b : Built). b.pages) c.self.view_is in
-    let new : looks_by_path c.items.result.now ≡ looks_of c.in_ok-target.target = ap looks_by_path c.items.ensures in
-    subst (λ (ps : List Path). AreTouched (once_by c.args.self.now.works.work) c.args.self.now.pages (looks_of c.in_ok-target.target) ps) (sym c.of.ensures)
-    (subst (λ os. AreTouched os c.args.self.now.pages (looks_of c.in_ok-target.target) c.in_ok-touched.touched.items) (sym (ap once_by work_is))
-    (subst (λ pages. AreTouched c.self.inside.once c.args.self.now.pages pages c.in_ok-touched.touched.items) new
-    (subst (λ pages. AreTouched c.self.inside.once pages (looks_by_path c.items.result.now) c.in_ok-touched.touched.items) old c.in_ok-touched.ensures.touched)))
-
-pub returns-clause-order : goal.returns-clause-order
-returns-clause-order c = subst (IsStrictlySortedBy text_cmp) (sym c.of.ensures) c.in_ok-touched.ensures.order
-
-pub returns-clause-elsewhere : goal.returns-clause-elsewhere
-returns-clause-elsewhere c =
-    let open_is : c.self.inside.is_open ≡ true = open_from c.self.inside.is_open (work_in c.self.inside) c.args.self.now.works.work (ap (λ (b : Built). b.works.work) c.self.view_is) c.requires.busy in
-    let joined : without (is_in c.self.inside.stock.looked) (found c.self.inside.stock.content c.self.inside.stock.done) ≡ [] =
-    ap (λ (o : Bool). unjoined_by c.self.inside.stock.content (cond o (Some (work_in c.self.inside)) None)) (sym open_is)
-    ∙ ap (λ (b : Built). unjoined_by b.works.content b.works.work) c.self.view_is ∙ c.requires.joined in
-    let shown : All (IsCurrent c.self.inside.stock.content c.self.inside.stock.looked c.self.inside.once) (looks_in (pages_in c.self.inside.target)) =
-    subst (λ (o : Bool). All (IsCurrent c.self.inside.stock.content c.self.inside.stock.looked (cond o c.self.inside.once [])) (looks_in (pages_in c.self.inside.target))) open_is c.self.invariant.shown in
-    let touched : AreTouched c.self.inside.once (pages_in c.self.inside.target) (page_looks c.self.inside.stock.content) c.in_ok-touched.touched.items =
-    subst (λ pages. AreTouched c.self.inside.once pages (page_looks c.self.inside.stock.content) c.in_ok-touched.touched.items) c.pages_of.ensures
-    (subst (λ pages. AreTouched c.self.inside.once (looks_by_path c.pages_of.result.now) pages c.in_ok-touched.touched.items) (ap looks_by_path c.items.ensures ∙ c.in_ok-target.ensures.looks) c.in_ok-touched.ensures.touched) in
-    subst (λ (ps : List Path). SameElsewhere ps c.args.self.now.pages (looks_of c.in_ok-target.target)) (sym c.of.ensures)
-    (subst (λ pages. SameElsewhere c.in_ok-touched.touched.items pages (looks_of c.in_ok-target.target)) (ap (λ (b : Built). b.pages) c.self.view_is)
-    (subst (λ pages. SameElsewhere c.in_ok-touched.touched.items (pages_in c.self.inside.target) pages) (sym c.in_ok-target.ensures.looks)
-    (current_elsewhere c.self.inside.stock.content c.content.ensures.earlier c.self.inside.stock.done c.self.inside.stock.looked joined c.self.inside.once (pages_in c.self.inside.target)
-    c.in_ok-touched.touched.items shown touched)))
-
 pub returns-clause-told : goal.returns-clause-told
 returns-clause-told c =
     let open_is : c.self.inside.is_open ≡ true = open_from c.self.inside.is_open (work_in c.self.inside) c.args.self.now.works.work (ap (λ (b : Built). b.works.work) c.self.view_is) c.requires.busy in
@@ -101,15 +64,18 @@ returns-clause-build c =
     let joined : unjoined c.args.self.now.works.content (work_in c.self.inside) ≡ [] = ap (unjoined_by c.args.self.now.works.content) (sym work_is) ∙ c.requires.joined in
     let whole : finished c.args.self.now.works ≡ finished_in (work_in c.self.inside) [] [] c.args.self.now.works =
     finished_open c.args.self.now.works (work_in c.self.inside) work_is ∙ (λ i. finished_in (work_in c.self.inside) (calm i) (joined i) c.args.self.now.works) in
+    let version : c.args.closing.target.version ≡ c.self.inside.version = c.requires.version ∙ ap (λ (b : Built). b.works.version) (sym c.self.view_is) in
+    let looks : looks_of c.args.closing.target ≡ page_looks c.self.inside.stock.content = c.requires.looks ∙ ap (λ (b : Built). page_looks b.works.content) (sym c.self.view_is) in
     (λ i. record {
-      works = record (works_in c.self.inside) { content = (c.in_ok-gone.ensures.ok i).content; target = Some (c.in_ok-target.ensures.version i); work = None };
-      pages = c.in_ok-target.ensures.looks i;
+      works = record (works_in c.self.inside) { content = (c.in_ok-gone.ensures.ok i).content; target = Some (version i); work = None };
+      pages = looks i;
     })
     ∙ ap (λ (b : Built). let v : Built = record { works = record b.works { target = Some c.self.inside.version; work = None }; pages = page_looks b.works.content } in v) c.self.view_is
     ∙ sym (ap (λ (x : Ended × Build). closed x c.args.self.now) whole)
 
 pub invariant_of-self-2 : goal.invariant_of-self-2
 invariant_of-self-2 c =
+    let looks : looks_of c.args.closing.target ≡ page_looks c.self.inside.stock.content = c.requires.looks ∙ ap (λ (b : Built). page_looks b.works.content) (sym c.self.view_is) in
     let open_is : c.self.inside.is_open ≡ true = open_from c.self.inside.is_open (work_in c.self.inside) c.args.self.now.works.work (ap (λ (b : Built). b.works.work) c.self.view_is) c.requires.busy in
     let work_is : c.args.self.now.works.work ≡ Some (work_in c.self.inside) = ap (λ (b : Built). b.works.work) (sym c.self.view_is) ∙ ap (λ (o : Bool). cond o (Some (work_in c.self.inside)) None) open_is in
     let calm : waiting c.self.inside.stock.content c.self.inside.stock.done ≡ [] =
@@ -122,9 +88,9 @@ invariant_of-self-2 c =
       is_done = ap (λ (s : Stocked). s.done) ok ∙ sym (ap (λ (s : Stocked). live s.content) ok);
       is_looked = ap (λ (s : Stocked). s.looked) ok ∙ sym (ap (λ (s : Stocked). live s.content) ok);
       planned = tt;
-      rising = ap (is_sorted text_cmp) c.in_ok-target.ensures.looks ∙ page_looks_rise c.self.inside.stock.content;
-      shown = subst (λ (s : Stocked). All (IsCurrent s.content s.looked []) (looks_in (looks_of c.in_ok-target.target))) (sym ok)
-          (subst (λ pages. All (IsCurrent c.self.inside.stock.content (live c.self.inside.stock.content) []) (looks_in pages)) (sym c.in_ok-target.ensures.looks)
+      rising = ap (is_sorted text_cmp) looks ∙ page_looks_rise c.self.inside.stock.content;
+      shown = subst (λ (s : Stocked). All (IsCurrent s.content s.looked []) (looks_in (looks_of c.args.closing.target))) (sym ok)
+          (subst (λ pages. All (IsCurrent c.self.inside.stock.content (live c.self.inside.stock.content) []) (looks_in pages)) (sym looks)
           (target_current c.self.inside.stock.content (live c.self.inside.stock.content) []));
       reads = subst (λ (s : Stocked). HasReads s.content s.done c.drop_all.new.graph) (sym ok)
           (reads_left c.self.inside.stock.content c.self.inside.stock.done (live c.self.inside.stock.content) c.self.inside.graph c.drop_all.new.graph

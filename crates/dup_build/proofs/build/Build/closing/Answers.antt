@@ -6,7 +6,7 @@ use Rattle.dup_machine.specs.Works.{unjoined}
 use Rattle.dup_build.specs.Build.{work_in}
 use Rattle.dup_build.specs.Built.{Built, closed, finished}
 use Rattle.dup_build.proofs.Builds.{finished_open, some_wait, some_unjoined, no_one}
-use Rattle.dup_build.proofs.build.Build.finish.Goals as goal
+use Rattle.dup_build.proofs.build.Build.closing.Goals as goal
 
 pub returns-then-waiting-gt0-clause-told : goal.returns-then-waiting-gt0-clause-told
 returns-then-waiting-gt0-clause-told c =
@@ -19,8 +19,8 @@ returns-then-waiting-gt0-clause-told c =
     ∙ some_wait c.args.self.now.works (work_in c.self.inside) (waiting c.args.self.now.works.content c.self.inside.stock.done) (unjoined c.args.self.now.works.content (work_in c.self.inside)) some in
     ap Ended.Waiting count ∙ sym (ap (λ (x : Ended × Build). x.0) step)
 
-pub returns-then-waiting-gt0-clause-build : goal.returns-then-waiting-gt0-clause-build
-returns-then-waiting-gt0-clause-build c =
+pub returns-then-waiting-gt0-clause-stays : goal.returns-then-waiting-gt0-clause-stays
+returns-then-waiting-gt0-clause-stays c =
     let work_is : c.args.self.now.works.work ≡ Some (work_in c.self.inside) = ap (λ (b : Built). b.works.work) (sym c.self.view_is) ∙ ap (λ (o : Bool). cond o (Some (work_in c.self.inside)) None) c.if-not-self.false in
     let count : c.waiting-waiting.result ≡ length (waiting c.args.self.now.works.content c.self.inside.stock.done) =
     c.waiting-waiting.ensures ∙ ap (λ (b : Built). length (waiting b.works.content c.self.inside.stock.done)) c.self.view_is in
@@ -28,7 +28,7 @@ returns-then-waiting-gt0-clause-build c =
     let step : finished c.args.self.now.works ≡ (Ended.Waiting (length (waiting c.args.self.now.works.content c.self.inside.stock.done)), c.args.self.now.works) =
     finished_open c.args.self.now.works (work_in c.self.inside) work_is
     ∙ some_wait c.args.self.now.works (work_in c.self.inside) (waiting c.args.self.now.works.content c.self.inside.stock.done) (unjoined c.args.self.now.works.content (work_in c.self.inside)) some in
-    sym (ap (λ (x : Ended × Build). closed x c.args.self.now) step)
+    (tt, ap (λ (x : Ended × Build). closed x c.args.self.now) step)
 
 pub returns-then-unjoined-gt0-clause-told : goal.returns-then-unjoined-gt0-clause-told
 returns-then-unjoined-gt0-clause-told c =
@@ -44,8 +44,8 @@ returns-then-unjoined-gt0-clause-told c =
     ∙ some_unjoined c.args.self.now.works (work_in c.self.inside) (waiting c.args.self.now.works.content c.self.inside.stock.done) (unjoined c.args.self.now.works.content (work_in c.self.inside)) none some in
     ap Ended.Unjoined left ∙ sym (ap (λ (x : Ended × Build). x.0) step)
 
-pub returns-then-unjoined-gt0-clause-build : goal.returns-then-unjoined-gt0-clause-build
-returns-then-unjoined-gt0-clause-build c =
+pub returns-then-unjoined-gt0-clause-stays : goal.returns-then-unjoined-gt0-clause-stays
+returns-then-unjoined-gt0-clause-stays c =
     let work_is : c.args.self.now.works.work ≡ Some (work_in c.self.inside) = ap (λ (b : Built). b.works.work) (sym c.self.view_is) ∙ ap (λ (o : Bool). cond o (Some (work_in c.self.inside)) None) c.if-not-self.false in
     let count : c.waiting-waiting.result ≡ length (waiting c.args.self.now.works.content c.self.inside.stock.done) =
     c.waiting-waiting.ensures ∙ ap (λ (b : Built). length (waiting b.works.content c.self.inside.stock.done)) c.self.view_is in
@@ -56,4 +56,4 @@ returns-then-unjoined-gt0-clause-build c =
     let step : finished c.args.self.now.works ≡ (Ended.Unjoined (length (unjoined c.args.self.now.works.content (work_in c.self.inside))), c.args.self.now.works) =
     finished_open c.args.self.now.works (work_in c.self.inside) work_is
     ∙ some_unjoined c.args.self.now.works (work_in c.self.inside) (waiting c.args.self.now.works.content c.self.inside.stock.done) (unjoined c.args.self.now.works.content (work_in c.self.inside)) none some in
-    sym (ap (λ (x : Ended × Build). closed x c.args.self.now) step)
+    (tt, ap (λ (x : Ended × Build). closed x c.args.self.now) step)
