@@ -7,15 +7,9 @@ pub mod CommandTable
 pub mod Numbers
 pub mod Transcripts
 pub mod WrittenLines
-pub mod ScriptRowsComputed
 pub mod Reports
 pub mod MachineAnswers
-pub mod RowPageLemmas
-pub mod RowCountLemmas
-pub mod SettledPages
-pub mod SinglePages
-pub mod MachineBundles
-pub mod MachineSteps
-pub mod MachineScripts
+pub mod MachineTurns
+pub mod ScriptRowsComputed
 pub mod ScriptRuns
 pub mod OnlyTable

@@ -7,19 +7,19 @@ use Rattle.dup_names.specs.Lines.{Reading}
 use Rattle.dup_names.specs.Words.{Word}
 use Rattle.dup_template.specs.declared.site.Parts.{Parts}
 use Rattle.dup_model.specs.GoodSites.{HistoriesEmbedEarlier}
-use Rattle.dup_model.specs.Journal.{Limits}
+use Rattle.dup_model.specs.Journal.{Limits, usual_limits}
 use Rattle.dup_machine.specs.World.{Event, World, first_world}
 use Rattle.dup_machine.specs.Run.{run, step}
 use Rattle.dup_machine.proofs.Runs.{headline}
 use Rattle.dup_transcript.specs.declared.command.Command.TheVariants as command
 use Rattle.dup_transcript.specs.declared.task.Task.TheVariants.{Play}
-use Rattle.dup_transcript.specs.Commands.{Command, played_line}
+use Rattle.dup_transcript.specs.Commands.{Command, line_command}
 use Rattle.dup_transcript.specs.Inputs.{script, site_is_read, site_lines, site_text}
-use Rattle.dup_transcript.specs.MachinePlays.{IsReady, MachinePlays, StandsFor, limits_for}
+use Rattle.dup_transcript.specs.MachinePlays.{IsReady, MachinePlays, StandsFor}
 use Rattle.dup_transcript.specs.ScriptRuns.{HasRun, IsRun, LeavesNothing, PlaysEvents, TranscriptsAreRuns}
 use Rattle.dup_transcript.specs.Transcript.{DoesRead, DoesSite, GivesGoodSites, Grammars, PlaysScript, commands, site_for, site_ok, too_long}
 use Rattle.dup_transcript.proofs.MachineAnswers.{commands_leave_ready, settles_leave_nothing, starts_ready}
-use Rattle.dup_transcript.proofs.Transcripts.{played_embeds}
+use Rattle.dup_transcript.proofs.Transcripts.{given_embeds}
 
 module _ (site : Parts) (limits : Limits) (earlier : HistoriesEmbedEarlier site) where
   behind : (before events : List Event) → run site limits (before ++ events) ≡ fold (step site limits) (run site limits before) events
@@ -49,25 +49,24 @@ module _ (site : Parts) (limits : Limits) (earlier : HistoriesEmbedEarlier site)
       subst (λ w. LeavesNothing site w c) (sym after) (leaves c (run site limits before) (number + 1) plays.0 plays.1.0 r plays.1.1.1) in
       (rest.0, (plays.0, (plays.1.0, (plays.1.1.0, plays.1.1.1, plays.1.1.2, nothing, rest.1))))
 
-script_runs : (g : Grammars) → GivesGoodSites g → (input : Reading) (site : Parts) (out : Word) → site_for g Play (site_text input) ≡ Ok site →
-    (more : Word) × (out ≡ site_ok ++ more) × PlaysScript (played_line g.feed) site (site_lines input) (script input) more → HasRun g input out
+script_runs : (g : Grammars) → GivesGoodSites g → (input : Reading) (site : Parts) (out : Word) → site_for g (site_text input) ≡ Ok site →
+    (more : Word) × (out ≡ site_ok ++ more) × PlaysScript (line_command g.feed) site (site_lines input) (script input) more → HasRun g input out
 script_runs g good input site out is plays other read same =
     let one : site ≡ other = cc in
-    let limits : Limits = limits_for (commands (played_line g.feed) (script input)) in
-    let earlier : HistoriesEmbedEarlier site = played_embeds g good (site_text input) site is in
-    let run_of : (all : List Event) × PlaysEvents site limits [] (site_lines input) (commands (played_line g.feed) (script input)) (too_long (script input)) plays.0 all =
-    collect site limits earlier (commands (played_line g.feed) (script input)) [] (site_lines input) (too_long (script input)) plays.0 (starts_ready site) plays.2 in
-    subst (λ s. (more : Word) × (out ≡ site_ok ++ more) × IsRun (played_line g.feed) s (site_lines input) (script input) more) one
-    (plays.0, plays.1, (run_of.0, run_of.1, headline site limits run_of.0))
+    let earlier : HistoriesEmbedEarlier site = given_embeds g good (site_text input) site is in
+    let run_of : (all : List Event) × PlaysEvents site usual_limits [] (site_lines input) (commands (line_command g.feed) (script input)) (too_long (script input)) plays.0 all =
+    collect site usual_limits earlier (commands (line_command g.feed) (script input)) [] (site_lines input) (too_long (script input)) plays.0 (starts_ready site) plays.2 in
+    subst (λ s. (more : Word) × (out ≡ site_ok ++ more) × IsRun (line_command g.feed) s (site_lines input) (script input) more) one
+    (plays.0, plays.1, (run_of.0, run_of.1, headline site usual_limits run_of.0))
 
-site_runs : (g : Grammars) → GivesGoodSites g → (input : Reading) (site : Result Parts Word) (status : ℕ) (out : Word) → site_for g Play (site_text input) ≡ site →
+site_runs : (g : Grammars) → GivesGoodSites g → (input : Reading) (site : Result Parts Word) (status : ℕ) (out : Word) → site_for g (site_text input) ≡ site →
     DoesSite g Play site input status out → HasRun g input out
 site_runs g good input (Ok site) status out is does = script_runs g good input site out is does.1
 site_runs g good input (Err why) status out is does = λ other read same. absurd (cc)
 
 read_runs : (g : Grammars) → GivesGoodSites g → (input : Reading) (read : Bool) (status : ℕ) (out : Word) → site_is_read input ≡ read →
     DoesRead g Play read input status out → HasRun g input out
-read_runs g good input true status out is does = site_runs g good input (site_for g Play (site_text input)) status out refl does
+read_runs g good input true status out is does = site_runs g good input (site_for g (site_text input)) status out refl does
 read_runs g good input false status out is does = λ site read same. absurd (cc)
 
 pub transcripts_are_runs : TranscriptsAreRuns

@@ -1,5 +1,5 @@
 -- What the lines of a script command. The law above: `commands_law`.
-use Rattle.std.specs.Prelude.{◌≡◌, ℕ, Bool, true, false, ◌&&◌, List, [], ◌∷◌, Option, Some, None, codes, nat_eq, nat_le, if◌then◌else◌}
+use Rattle.std.specs.Prelude.{ℕ, Bool, ◌&&◌, List, [], ◌∷◌, Option, Some, None, codes, nat_eq, nat_le, if◌then◌else◌}
 use Rattle.std.specs.Prelude.{Result, Ok, Err}
 use Rattle.std.specs.List.{list_all}
 use Rattle.dup_names.specs.Grammar.{is_path}
@@ -11,11 +11,9 @@ use Rattle.dup_transcript.specs.Numbers.{number_of}
 use Rattle.dup_transcript.specs.declared.command.Command.{Command as CommandOf}
 use Rattle.dup_transcript.specs.declared.command.Command.TheVariants as command
 use Rattle.dup_transcript.specs.declared.command.Command.TheVariants.{Blank, Settle, Node, Get, NotBuilt}
-use Rattle.dup_model.specs.declared.edit.Edit.{Edit}
 use Rattle.dup_model.specs.declared.feed_refusal.FeedRefusal.{FeedRefusal}
 use Rattle.dup_model.specs.declared.mode.Mode.{Mode}
 use Rattle.dup_model.specs.declared.mode.Mode.TheVariants.{Invalidate, Update}
-use Rattle.dup_model.specs.declared.edit.Edit.TheVariants.{Put, Remove, Replace}
 
 abbrev pub Command : Type 0
 Command = CommandOf Commit
@@ -60,16 +58,6 @@ by_words (word ∷ []) = one_word word
 by_words (word ∷ a ∷ b ∷ c ∷ []) = four_words word a b c
 by_words _ = NotBuilt
 
--- a commit of one put
-abbrev pub is_put : Edit → Bool
-is_put (Put kind key fields) = true
-is_put (Remove kind key) = false
-is_put (Replace template body) = false
-
-abbrev pub is_one_put : Commit → Bool
-is_one_put (edit ∷ []) = is_put edit
-is_one_put _ = false
-
 -- what a feed message commands
 abbrev pub of_message : Result Commit FeedRefusal → Command
 of_message (Ok commit) = command.Commit commit
@@ -97,25 +85,3 @@ by_start feed (b ∷ rest) = if nat_eq b 35 then Blank else by_message feed (mes
 -- the command of a line, given what feed messages say
 abbrev pub line_command : Feed → Word → Command
 line_command feed text = by_start feed (trimmed text)
-
--- what is played today: a commit of more than one put isn't built
-abbrev pub of_commit : Commit → Command
-of_commit commit = if is_one_put commit then command.Commit commit else NotBuilt
-
-abbrev pub playable : Command → Command
-playable (command.Commit commit) = of_commit commit
-playable (command.BadFeed why) = command.BadFeed why
-playable Settle = Settle
-playable (Node number capacity mode) = Node number capacity mode
-playable (Get node pass path) = Get node pass path
-playable Blank = Blank
-playable NotBuilt = NotBuilt
-
--- the command of a line, as far as it is played
-abbrev pub played_line : Feed → Word → Command
-played_line feed text = playable (line_command feed text)
-
--- a commit is one put, as each that is played
-abbrev pub IsPutting : Command → Type 0
-IsPutting (command.Commit commit) = is_one_put commit ≡ true
-IsPutting _ = Unit {0}

@@ -1,13 +1,13 @@
 -- A script in the machine: the events that each command stands for, and what is written of their replies. The
 -- law above: `plays_law`.
 use Rattle.std.specs.Prelude.{◌≡◌, ℕ, ◌+◌, ◌-◌, false, List, [], ◌∷◌, ◌++◌, None, length}
-use Rattle.std.specs.List.{fold, sum_by}
+use Rattle.std.specs.List.{fold}
 use Rattle.std.specs.FinMap as fin
 use Rattle.dup_names.specs.Words.{Word}
 use Rattle.dup_template.specs.declared.site.Parts.{Parts}
 use Rattle.dup_transcript.specs.Commands.{Command}
 use Rattle.dup_model.specs.GoodSites.{HistoriesEmbedEarlier}
-use Rattle.dup_model.specs.Journal.{Limits, commit_bytes, usual_limits}
+use Rattle.dup_model.specs.Journal.{Limits}
 use Rattle.dup_model.specs.Versions.{IsHistory}
 use Rattle.dup_machine.specs.Run.{run, step}
 use Rattle.dup_machine.specs.Settle.{Settles}
@@ -49,15 +49,6 @@ MachinePlays site limits before number (command ∷ rest) last out =
     × StandsFor site limits (run site limits before) (number + 1) command events said
     × (out ≡ said ++ more)
     × MachinePlays site limits (before ++ events) (number + 1) rest last more))
-
-abbrev pub command_bytes : Command → ℕ
-command_bytes (command.Commit commit) = commit_bytes commit
-command_bytes _ = 0
-
--- the usual room for rows, and a journal with room for just what these commands commit: it is never full
-abbrev pub limits_for : List Command → Limits
-limits_for commands =
-    record { rows = usual_limits.rows; commits = length commands; bytes = sum_by command_bytes commands }
 
 -- where the machine is between two commands: no work is open, the slot of a settle is empty, and the commits
 -- are a history

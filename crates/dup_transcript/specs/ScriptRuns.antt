@@ -4,16 +4,16 @@ use Rattle.std.specs.Prelude.{◌≡◌, ℕ, ◌+◌, true, List, [], ◌∷◌
 use Rattle.dup_names.specs.Lines.{Reading}
 use Rattle.dup_names.specs.Words.{Word}
 use Rattle.dup_template.specs.declared.site.Parts.{Parts}
-use Rattle.dup_model.specs.Journal.{Limits}
+use Rattle.dup_model.specs.Journal.{Limits, usual_limits}
 use Rattle.dup_machine.specs.World.{Event, World}
 use Rattle.dup_machine.specs.Run.{run}
 use Rattle.dup_machine.specs.Status.{NothingPending}
 use Rattle.dup_machine.specs.Headline.{HeadlineAt}
 use Rattle.dup_transcript.specs.declared.command.Command.TheVariants as command
 use Rattle.dup_transcript.specs.declared.task.Task.TheVariants.{Play}
-use Rattle.dup_transcript.specs.Commands.{Command, played_line}
+use Rattle.dup_transcript.specs.Commands.{Command, line_command}
 use Rattle.dup_transcript.specs.Inputs.{script, site_is_read, site_lines, site_text}
-use Rattle.dup_transcript.specs.MachinePlays.{StandsFor, limits_for}
+use Rattle.dup_transcript.specs.MachinePlays.{StandsFor}
 use Rattle.dup_transcript.specs.Transcript.{GivesGoodSites, Grammars, IsTranscript, commands, site_for, site_ok, too_long}
 
 -- behind a settle nothing is pending
@@ -36,17 +36,16 @@ PlaysEvents site limits before number (command ∷ rest) last out all =
 -- events, and of their run the headline holds
 abbrev pub IsRun : (Word → Command) → Parts → ℕ → Reading → Word → Type 0
 IsRun asks site number input out =
-    let all = commands asks input in
-    let limits = limits_for all in
-    (events : List Event) × PlaysEvents site limits [] number all (too_long input) out events
-    × HeadlineAt site limits events
+    (events : List Event)
+    × PlaysEvents site usual_limits [] number (commands asks input) (too_long input) out events
+    × HeadlineAt site usual_limits events
 
 -- where the site text of an input is read whole and its site is played, `site ok` is written, and then such a
 -- run
 abbrev pub HasRun : Grammars → Reading → Word → Type 0
 HasRun g input out = (site : Parts) → site_is_read input ≡ true →
-    site_for g Play (site_text input) ≡ Ok site →
-    (more : Word) × (out ≡ site_ok ++ more) × IsRun (played_line g.feed) site (site_lines input) (script input) more
+    site_for g (site_text input) ≡ Ok site →
+    (more : Word) × (out ≡ site_ok ++ more) × IsRun (line_command g.feed) site (site_lines input) (script input) more
 
 -- so it is with each transcript of `play`
 abbrev pub TranscriptsAreRuns : Type 0

@@ -8,13 +8,13 @@ use Rattle.dup_template.specs.declared.refusal.SiteTextRefusal.{SiteTextRefusal}
 use Rattle.dup_template.specs.Good.{IsGood}
 use Rattle.dup_template.specs.declared.site.Parts.{Parts}
 use Rattle.dup_transcript.specs.BadSites.{or_cause}
-use Rattle.dup_transcript.specs.FirstForm.{or_not_built}
-use Rattle.dup_transcript.specs.Commands.{Command, Feed, line_command, played_line}
+use Rattle.dup_transcript.specs.Commands.{Command, Feed, line_command}
 use Rattle.dup_model.specs.Commits.{Commit}
 use Rattle.dup_model.specs.Content.{Content}
+use Rattle.dup_model.specs.Journal.{usual_limits}
 use Rattle.dup_transcript.specs.Inputs.{script, site_is_read, site_lines, site_text}
 use Rattle.dup_transcript.specs.RenderedPages.{last_content, render_answers, rendered_pages}
-use Rattle.dup_transcript.specs.MachinePlays.{MachinePlays, limits_for}
+use Rattle.dup_transcript.specs.MachinePlays.{MachinePlays}
 use Rattle.dup_transcript.specs.declared.task.Task.{Task}
 use Rattle.dup_transcript.specs.declared.task.Task.TheVariants.{Play, Check, Render}
 
@@ -59,11 +59,10 @@ commands asks (Next text rest) = asks text ∷ commands asks rest
 commands asks _ = []
 
 -- what is written for a script behind a site text of so many lines: what the machine replies to its commands,
--- and what is too long
+-- within the usual limits, and what is too long
 abbrev pub PlaysScript : (Word → Command) → Parts → ℕ → Reading → Word → Type 0
 PlaysScript asks site number input out =
-    let all = commands asks input in
-    MachinePlays site (limits_for all) [] number all (too_long input) out
+    MachinePlays site usual_limits [] number (commands asks input) (too_long input) out
 
 -- a site is played: `site ok`, and then the answers to the script
 abbrev pub Plays : (Word → Command) → Parts → Reading → ℕ → Word → Type 0
@@ -96,15 +95,13 @@ abbrev pub Checks : Word → ℕ → Word → Type 0
 Checks canonical status out = (status ≡ 0) × (out ≡ canonical)
 
 abbrev pub Does : Grammars → Task → Parts → Reading → ℕ → Word → Type 0
-Does g Play site input status out = Plays (played_line g.feed) site input status out
+Does g Play site input status out = Plays (line_command g.feed) site input status out
 Does g Check site input status out = Checks (g.canonical site) status out
 Does g Render site input status out = Renders (line_command g.feed) site input status out
 
--- the site of a text that a task takes, or the line that is written in its place
-abbrev pub site_for : Grammars → Task → Word → Result Parts Word
-site_for g Play text = or_not_built (or_cause (g.site text))
-site_for g Check text = or_cause (g.site text)
-site_for g Render text = or_cause (g.site text)
+-- the good site of a text, or the line that is written in its place
+abbrev pub site_for : Grammars → Word → Result Parts Word
+site_for g text = or_cause (g.site text)
 
 abbrev pub DoesSite : Grammars → Task → Result Parts Word → Reading → ℕ → Word → Type 0
 DoesSite g task (Ok site) input status out = Does g task site input status out
@@ -112,7 +109,7 @@ DoesSite g task (Err why) input status out = (status ≡ 5) × (out ≡ why)
 
 abbrev pub DoesRead : Grammars → Task → Bool → Reading → ℕ → Word → Type 0
 DoesRead g task false input status out = (status ≡ 7) × (out ≡ too_long input)
-DoesRead g task true input status out = DoesSite g task (site_for g task (site_text input)) input status out
+DoesRead g task true input status out = DoesSite g task (site_for g (site_text input)) input status out
 
 -- the transcript of an input: the status, and all that is written
 abbrev pub IsTranscript : Grammars → Task → Reading → ℕ → Word → Type 0

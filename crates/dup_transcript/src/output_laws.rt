@@ -9,10 +9,7 @@ ghost use Rattle.dup_transcript.specs.MachinePlays.{
 };
 ghost use Rattle.dup_transcript.specs.OnlyTable.{OnlyTheTable};
 ghost use Rattle.dup_transcript.specs.Numbers.{NumbersAreDecimal};
-ghost use Rattle.dup_transcript.specs.RowCounts.{RowsAreCounted};
-ghost use Rattle.dup_transcript.specs.RowPages.{RowsHavePages};
 ghost use Rattle.dup_transcript.specs.ScriptRuns.{TranscriptsAreRuns};
-ghost use Rattle.dup_transcript.specs.Sessions.{SessionsAreTheMachines};
 ghost use Rattle.dup_transcript.specs.Transcript.{TranscriptsAreOne, TranscriptsExist};
 ghost use Rattle.dup_transcript.specs.WrittenLines.{LinesAreFound, LinesAreRead};
 
@@ -52,20 +49,4 @@ pub fn plays_law()
     ensures starts { StartsReady }
     ensures ready { CommandsLeaveReady }
     ensures settled { SettlesLeaveNothing }
-{}
-
-/// In a site of the first form each row has a page, in the order of the keys, and nothing else has one.
-pub fn row_pages_law()
-    ensures { RowsHavePages }
-{}
-
-/// In such a site what is expanded, joined and kept from one settle to the next are counts of rows.
-pub fn row_counts_law()
-    ensures { RowsAreCounted }
-{}
-
-/// In such a site, where each commit is one put, what a script is answered may be told without events of the
-/// machine.
-pub fn sessions_law()
-    ensures { SessionsAreTheMachines }
 {}
