@@ -1,15 +1,10 @@
-pub mod Commits
+pub mod Acting
 pub mod CutScripts
-pub mod Editions
 pub mod NumberLemmas
 pub mod PageJobs
-pub mod Published
 pub mod RenderSoFar
-pub mod RowReads
 pub mod ScriptSoFar
-pub mod Settling
 pub mod SiteSoFar
-pub mod Puts
 pub mod WholeRuns
 pub mod WordLemmas
 pub mod Reached

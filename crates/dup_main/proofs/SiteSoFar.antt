@@ -87,7 +87,6 @@ IsDue (stops.LineTooLong n) r = IsReading r (LongLine n)
 IsDue stops.InputTooLong r = IsReading r LongInput
 IsDue stops.WriteFault r = ⊥
 IsDue (stops.BadSite why) r = ⊥
-IsDue stops.NotBuilt r = ⊥
 IsDue _ r = Unit {0}
 
 pub stopped : (stop : Stop) (a r : Option Reading) (text : Word) (before now : ℕ) → SoFar a r text before now → IsDue stop r → StopsInSite stop a
@@ -103,7 +102,6 @@ stopped stops.InputTooLong (Some all) (Some r) text before now p due =
     (λ cut. (q.whole, q.ends), q.long)
 stopped stops.WriteFault a r text before now p due = absurd due
 stopped (stops.BadSite why) a r text before now p due = absurd due
-stopped stops.NotBuilt a r text before now p due = absurd due
 stopped stops.ReadFault None r text before now p due = tt
 stopped stops.ReadFault (Some all) r text before now p due = (λ cut. absurd (cc), tt)
 stopped stops.NoMemory None r text before now p due = tt

@@ -10,40 +10,35 @@ use Rattle.dup_names.specs.Words.{Word}
 use Rattle.dup_template.specs.declared.site.Parts.{Parts}
 use Rattle.dup_main.specs.declared.stop.Stop.{Stop}
 use Rattle.dup_main.specs.declared.stop.Stop.TheVariants as stops
-use Rattle.dup_main.specs.Commands.{command_of, played_of}
+use Rattle.dup_main.specs.Commands.{command_of}
 use Rattle.dup_transcript.specs.BadSites.{bad_site_text, or_cause}
-use Rattle.dup_transcript.specs.FirstForm.{not_built_site}
-use Rattle.dup_transcript.specs.Sessions.{Writes, first_session}
+use Rattle.dup_transcript.specs.Turns.{Writes, first_standing}
 use Rattle.dup_main.specs.Stops.{IsSiteText, ReadsSite, CountsSite, WritesScript, StopsInScript, StopsAt, BarsSite, stop_text}
 use Rattle.dup_transcript.specs.Transcript.{commands, too_long, RendersLines, Does, DoesSite, DoesRead, IsTranscript, ending, site_for, site_ok}
 use Rattle.dup_main.specs.Transcript.{WritesTranscript, grammars}
 use Rattle.dup_transcript.specs.Inputs.{site_text, site_lines, script}
 use Rattle.dup_transcript.specs.declared.task.Task.{Task}
+use Rattle.dup_transcript.proofs.MachineTurns.{first_stands}
 use Rattle.dup_transcript.specs.declared.task.Task.TheVariants as tasks
-use Rattle.dup_transcript.proofs.MachineScripts.{sessions_are_the_machines}
-use Rattle.dup_transcript.proofs.Transcripts.{played_form}
-use Rattle.dup_main.proofs.PlayedRuns.{grammars_good}
-use Rattle.dup_main.proofs.Puts.{lines_put}
-use Rattle.dup_transcript.proofs.Transcripts.{played}
 
 -- what is read of an input from its first byte
 abbrev pub Reads : Option Word → Option Reading → Type 0
 Reads left r = r ≡ option_map (reading 0 0) left
 
 -- a transcript of a site text that was read
-of_site : (task : Task) (all rest : Reading) (text : Word) (site : Result Parts Word) (status : ℕ) (out : Word) → IsSiteText all rest text → site_for grammars task text ≡ site
+of_site : (task : Task) (all rest : Reading) (text : Word) (site : Result Parts Word) (status : ℕ) (out : Word) → IsSiteText all rest text → site_for grammars text ≡ site
     → DoesSite grammars task site all status out → IsTranscript grammars task all status out
 of_site task all rest text site status out t is d =
-    let at_text : DoesSite grammars task (site_for grammars task (site_text all)) all status out =
-    subst (λ (s : Result Parts Word). DoesSite grammars task s all status out) (sym (ap (site_for grammars task) t.says ∙ is)) d in
+    let at_text : DoesSite grammars task (site_for grammars (site_text all)) all status out =
+    subst (λ (s : Result Parts Word). DoesSite grammars task s all status out) (sym (ap (site_for grammars) t.says ∙ is)) d in
     subst (λ (b : Bool). DoesRead grammars task b all status out) (sym t.whole) at_text
 
 -- the line in place of a site
-does_bad : (task : Task) (all rest : Reading) (text line : Word) → IsSiteText all rest text → site_for grammars task text ≡ Err line → IsTranscript grammars task all 5 line
+does_bad : (task : Task) (all rest : Reading) (text line : Word) → IsSiteText all rest text → site_for grammars text ≡ Err line → IsTranscript grammars task all 5 line
 does_bad task all rest text line t bad = of_site task all rest text (Err line) 5 line t bad (refl, refl)
 
 -- a stop that bars the site
-pub bad : (task : Task) (left old : Option Word) (r rest : Option Reading) (text : Word) (stop : Stop) → Reads left r → ReadsSite r rest text → BarsSite stop (site_for grammars task text)
+pub bad : (task : Task) (left old : Option Word) (r rest : Option Reading) (text : Word) (stop : Stop) → Reads left r → ReadsSite r rest text → BarsSite stop (site_for grammars text)
     → StopsAt task stop left old old
 bad task None old r rest text stop is t b = tt
 bad task (Some input) old None rest text stop is t b = absurd (cc)
@@ -51,9 +46,6 @@ bad task (Some input) old (Some all) None text stop is t b = absurd t
 bad task (Some input) old (Some all) (Some rest) text (stops.BadSite why) is t b =
     let e : all ≡ reading 0 0 input = cc in
     λ w. ([], subst (λ (x : Reading). IsTranscript grammars task x 5 (bad_site_text why)) e (does_bad task all rest text (bad_site_text why) t b), Appends-nil old)
-bad task (Some input) old (Some all) (Some rest) text stops.NotBuilt is t b =
-    let e : all ≡ reading 0 0 input = cc in
-    λ w. ([], subst (λ (x : Reading). IsTranscript grammars task x 5 not_built_site) e (does_bad task all rest text not_built_site t b), Appends-nil old)
 bad task (Some input) old (Some all) (Some rest) text stops.NoMemory is t b = λ w. absurd (cc)
 bad task (Some input) old (Some all) (Some rest) text stops.ReadFault is t b = absurd b
 bad task (Some input) old (Some all) (Some rest) text stops.WriteFault is t b = absurd b
@@ -65,10 +57,10 @@ pub reads_from : (left ahead : Option Word) (n t : ℕ) → ahead ≡ left → n
 reads_from left ahead n t e first taken = cc
 
 pub stopped_by_site : {X : Type 0} (task : Task) (result : Result X Stop) (e : Stop) (left old new : Option Word) (r rest : Option Reading) (text seen : Word) → IsErrAnd result (λ s. s ≡ e)
-    → Reads left r → ReadsSite r rest text → seen ≡ text → BarsSite e (site_for grammars task seen) → new ≡ old → IfErr result (λ stop. StopsAt task stop left old new)
+    → Reads left r → ReadsSite r rest text → seen ≡ text → BarsSite e (site_for grammars seen) → new ≡ old → IfErr result (λ stop. StopsAt task stop left old new)
 stopped_by_site task (Ok x) e left old new r rest text seen is reads t same b n = tt
 stopped_by_site task (Err stop) e left old new r rest text seen is reads t same b n =
-    let at : StopsAt task e left old old = bad task left old r rest text e reads t (subst (λ (w : Word). BarsSite e (site_for grammars task w)) same b) in
+    let at : StopsAt task e left old old = bad task left old r rest text e reads t (subst (λ (w : Word). BarsSite e (site_for grammars w)) same b) in
     subst (λ (s : Stop). StopsAt task s left old new) (sym is) (subst (λ (o : Option Word). StopsAt task e left old o) (sym n) at)
 
 -- where a script follows
@@ -85,26 +77,18 @@ without_script true r t u text is h = absurd (cc)
 without_script false r t u text is h = h
 
 -- what each task says of a good site, and what it may write for the lines behind it
-pub does_play : (site : Parts) (all : Reading) (status : ℕ) (more text : Word) → site_for grammars tasks.Play text ≡ Ok site → status ≡ ending all
-    → Writes played_of site first_session (site_lines all) (script all) more → Does grammars tasks.Play site all status (site_ok ++ more)
-does_play site all status more text is ends w = (
-  ends,
-  (
-    more,
-    refl,
-    (sessions_are_the_machines site (site_lines all) (commands played_of (script all)) (too_long (script all)) more
-        (played_form (or_cause (grammars.site text)) site is) (grammars_good text site (played (grammars.site text) site is)) (lines_put (script all))).0 w,
-  ),
-)
+pub does_play : (site : Parts) (all : Reading) (status : ℕ) (more text : Word) → site_for grammars text ≡ Ok site → status ≡ ending all
+    → Writes command_of site first_standing (site_lines all) (script all) more → Does grammars tasks.Play site all status (site_ok ++ more)
+does_play site all status more text is ends w = (ends, (more, refl, w [] first_stands))
 
-pub does_render : (site : Parts) (all : Reading) (status : ℕ) (more text : Word) → site_for grammars tasks.Render text ≡ Ok site → status ≡ ending all → RendersLines command_of site (site_lines all) (script all) more
+pub does_render : (site : Parts) (all : Reading) (status : ℕ) (more text : Word) → site_for grammars text ≡ Ok site → status ≡ ending all → RendersLines command_of site (site_lines all) (script all) more
     → Does grammars tasks.Render site all status ([] ++ more)
 does_render site all status more text is ends w = (ends, w)
 
 -- a task that writes its first words on a good site, and then what it may for the lines behind the site text
 module _ (task : Task) (first : Word) (may : Parts → ℕ → Reading → Word → Type 0)
-    (does : (site : Parts) (all : Reading) (status : ℕ) (more text : Word) → site_for grammars task text ≡ Ok site → status ≡ ending all → may site (site_lines all) (script all) more → Does grammars task site all status (first ++ more)) where
-  good : (all rest : Reading) (text : Word) (site : Parts) (n status : ℕ) (more : Word) → IsSiteText all rest text → site_lines all ≡ n → site_for grammars task text ≡ Ok site
+    (does : (site : Parts) (all : Reading) (status : ℕ) (more text : Word) → site_for grammars text ≡ Ok site → status ≡ ending all → may site (site_lines all) (script all) more → Does grammars task site all status (first ++ more)) where
+  good : (all rest : Reading) (text : Word) (site : Parts) (n status : ℕ) (more : Word) → IsSiteText all rest text → site_lines all ≡ n → site_for grammars text ≡ Ok site
       → status ≡ ending rest → may site n rest more → IsTranscript grammars task all status (first ++ more)
   good all rest text site n status more t count is ends w =
       let inside : Does grammars task site all status (first ++ more) =
@@ -113,7 +97,7 @@ module _ (task : Task) (first : Word) (may : Parts → ℕ → Reading → Word 
 
   -- the site is good, and all lines behind it were answered
   done : (left old mid new : Option Word) (r rest : Option Reading) (text : Word) (site : Parts) (n : ℕ) → Reads left r → ReadsSite r rest text → CountsSite r 0 n
-      → site_for grammars task text ≡ Ok site → Appends old mid first → WritesScript (may site n) rest mid new → WritesTranscript task left old new 0
+      → site_for grammars text ≡ Ok site → Appends old mid first → WritesScript (may site n) rest mid new → WritesTranscript task left old new 0
   done None old mid new r rest text site n is t count fine ok w = tt
   done (Some input) old mid new None rest text site n is t count fine ok w = absurd (cc)
   done (Some input) old mid new (Some all) None text site n is t count fine ok w = absurd t
@@ -126,7 +110,7 @@ module _ (task : Task) (first : Word) (may : Parts → ℕ → Reading → Word 
 
   -- the site is good, and no line follows
   no_script : (left old mid new : Option Word) (r : Option Reading) (text more : Word) (site : Parts) → Reads left r → ReadsSite r (Some Whole) text
-      → site_for grammars task text ≡ Ok site → Appends old mid first → ((n : ℕ) → may site n Whole more) → Appends mid new more → WritesTranscript task left old new 0
+      → site_for grammars text ≡ Ok site → Appends old mid first → ((n : ℕ) → may site n Whole more) → Appends mid new more → WritesTranscript task left old new 0
   no_script None old mid new r text more site is t fine ok w put = tt
   no_script (Some input) old mid new None text more site is t fine ok w put = absurd (cc)
   no_script (Some input) old mid new (Some all) text more site is t fine ok w put =
@@ -135,14 +119,14 @@ module _ (task : Task) (first : Word) (may : Parts → ℕ → Reading → Word 
       (first ++ more, subst (λ (x : Reading). IsTranscript grammars task x 0 (first ++ more)) e p, Appends-trans old mid new _ _ ok put)
 
   pub ended_without_script : (result : Result (Unit {0}) Stop) (left old mid new : Option Word) (r : Option Reading) (text seen more : Word) (site : Parts) → Reads left r → ReadsSite r (Some Whole) text
-      → seen ≡ text → site_for grammars task seen ≡ Ok site → Appends old mid first → ((n : ℕ) → may site n Whole more) → OnOk result (Appends mid new more) → OnOk result (WritesTranscript task left old new 0)
+      → seen ≡ text → site_for grammars seen ≡ Ok site → Appends old mid first → ((n : ℕ) → may site n Whole more) → OnOk result (Appends mid new more) → OnOk result (WritesTranscript task left old new 0)
   ended_without_script (Ok x) left old mid new r text seen more site is t same fine ok w put =
-      no_script left old mid new r text more site is t (subst (λ (w : Word). site_for grammars task w ≡ Ok site) same fine) ok w put
+      no_script left old mid new r text more site is t (subst (λ (w : Word). site_for grammars w ≡ Ok site) same fine) ok w put
   ended_without_script (Err e) left old mid new r text seen more site is t same fine ok w put = tt
 
   -- a line behind the site text is too long
   cut_in_script : (left old mid new : Option Word) (r rest : Option Reading) (text : Word) (site : Parts) (n : ℕ) (stop : Stop) → Reads left r → ReadsSite r rest text → CountsSite r 0 n
-      → site_for grammars task text ≡ Ok site → Appends old mid first → StopsInScript stop (may site n) rest mid new → StopsAt task stop left old new
+      → site_for grammars text ≡ Ok site → Appends old mid first → StopsInScript stop (may site n) rest mid new → StopsAt task stop left old new
   cut_in_script None old mid new r rest text site n stop is t count fine ok s = tt
   cut_in_script (Some input) old mid new None rest text site n stop is t count fine ok s = absurd (cc)
   cut_in_script (Some input) old mid new (Some all) None text site n stop is t count fine ok s = absurd t
@@ -166,18 +150,17 @@ module _ (task : Task) (first : Word) (may : Parts → ℕ → Reading → Word 
       by_stop stops.ReadFault e s = λ w. absurd (cc)
       by_stop stops.WriteFault e s = λ w. absurd (cc)
       by_stop (stops.BadSite why) e s = absurd (elim s.1 [ inl h ↦ h | inr h ↦ cc ])
-      by_stop stops.NotBuilt e s = absurd (elim s.1 [ inl h ↦ h | inr h ↦ cc ])
       by_stop stops.NoMemory e s = λ w. absurd (cc)
 
   pub written_by_script : (result : Result (Unit {0}) Stop) (left old mid new : Option Word) (r rest : Option Reading) (text seen : Word) (site : Parts) (n : ℕ) → Reads left r → ReadsSite r rest text
-      → CountsSite r 0 n → seen ≡ text → site_for grammars task seen ≡ Ok site → Appends old mid first → OnOk result (WritesScript (may site n) rest mid new) → OnOk result (WritesTranscript task left old new 0)
+      → CountsSite r 0 n → seen ≡ text → site_for grammars seen ≡ Ok site → Appends old mid first → OnOk result (WritesScript (may site n) rest mid new) → OnOk result (WritesTranscript task left old new 0)
   written_by_script (Ok x) left old mid new r rest text seen site n reads t count same fine ok w =
-      done left old mid new r rest text site n reads t count (subst (λ (w : Word). site_for grammars task w ≡ Ok site) same fine) ok w
+      done left old mid new r rest text site n reads t count (subst (λ (w : Word). site_for grammars w ≡ Ok site) same fine) ok w
   written_by_script (Err e) left old mid new r rest text seen site n reads t count same fine ok w = tt
 
   pub stopped_by_script : (result : Result (Unit {0}) Stop) (left old mid new : Option Word) (r rest : Option Reading) (text seen : Word) (site : Parts) (n : ℕ) → Reads left r → ReadsSite r rest text
-      → CountsSite r 0 n → seen ≡ text → site_for grammars task seen ≡ Ok site → Appends old mid first → IfErr result (λ stop. StopsInScript stop (may site n) rest mid new)
+      → CountsSite r 0 n → seen ≡ text → site_for grammars seen ≡ Ok site → Appends old mid first → IfErr result (λ stop. StopsInScript stop (may site n) rest mid new)
       → IfErr result (λ stop. StopsAt task stop left old new)
   stopped_by_script (Ok x) left old mid new r rest text seen site n reads t count same fine ok s = tt
   stopped_by_script (Err e) left old mid new r rest text seen site n reads t count same fine ok s =
-      cut_in_script left old mid new r rest text site n e reads t count (subst (λ (w : Word). site_for grammars task w ≡ Ok site) same fine) ok s
+      cut_in_script left old mid new r rest text site n e reads t count (subst (λ (w : Word). site_for grammars w ≡ Ok site) same fine) ok s

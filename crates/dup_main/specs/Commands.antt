@@ -3,14 +3,10 @@ use Rattle.std.specs.Prelude.{ℕ, List, map}
 use Rattle.std.specs.Borrow.{Bor}
 use Rattle.dup_names.specs.Words.{Word}
 use Rattle.dup_feed.specs.Feed.{feed_says}
-use Rattle.dup_transcript.specs.Commands.{Command, line_command, played_line}
+use Rattle.dup_transcript.specs.Commands.{Command, line_command}
 
 abbrev pub seen : List (Bor (List ℕ)) → List Word
 seen words = map (λ w. w.now) words
 
 abbrev pub command_of : Word → Command
 command_of text = line_command feed_says text
-
--- the command of a line of a script, as far as it is played
-abbrev pub played_of : Word → Command
-played_of text = played_line feed_says text

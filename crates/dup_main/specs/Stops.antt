@@ -5,9 +5,8 @@ use Rattle.dup_names.specs.Lines.{Reading, reading}
 use Rattle.dup_names.specs.Words.{Word}
 use Rattle.dup_template.specs.declared.site.Parts.{Parts}
 use Rattle.dup_main.specs.declared.stop.Stop.{Stop}
-use Rattle.dup_main.specs.declared.stop.Stop.TheVariants.{ReadFault, WriteFault, BadSite, NotBuilt, NoMemory, LineTooLong, InputTooLong}
+use Rattle.dup_main.specs.declared.stop.Stop.TheVariants.{ReadFault, WriteFault, BadSite, NoMemory, LineTooLong, InputTooLong}
 use Rattle.dup_transcript.specs.BadSites.{bad_site_text}
-use Rattle.dup_transcript.specs.FirstForm.{not_built_site}
 use Rattle.dup_transcript.specs.declared.task.Task.{Task}
 use Rattle.dup_main.specs.Transcript.{grammars}
 use Rattle.dup_transcript.specs.Transcript.{IsTranscript, too_long_line, too_long_input, too_long, ending}
@@ -21,13 +20,11 @@ IsTooLong ReadFault text = Unit {0}
 IsTooLong NoMemory text = Unit {0}
 IsTooLong WriteFault text = ⊥
 IsTooLong (BadSite why) text = ⊥
-IsTooLong NotBuilt text = ⊥
 
 -- a stop that reading lines may give
 abbrev pub IsReadingStop : Stop → Type 0
 IsReadingStop WriteFault = ⊥
 IsReadingStop (BadSite why) = ⊥
-IsReadingStop NotBuilt = ⊥
 IsReadingStop _ = Unit {0}
 
 abbrev pub cuts : Stop → Bool
@@ -63,12 +60,10 @@ abbrev pub stop_text : Stop → Word
 stop_text (LineTooLong number) = too_long_line number
 stop_text InputTooLong = too_long_input
 stop_text (BadSite why) = bad_site_text why
-stop_text NotBuilt = not_built_site
 stop_text _ = []
 
 abbrev pub stop_status : Stop → ℕ
 stop_status (BadSite why) = 5
-stop_status NotBuilt = 5
 stop_status _ = 7
 
 -- what a task may write for the lines behind the site text was written whole
@@ -87,7 +82,6 @@ StopsInScript stop may (Some all) old new =
 
 abbrev pub writes : Stop → Bool
 writes (BadSite why) = true
-writes NotBuilt = true
 writes stop = cuts stop
 
 -- a run stops where only its last line is to be written
@@ -98,9 +92,8 @@ StopsAt task stop (Some input) old new =
     × IsTranscript grammars task (reading 0 0 input) (stop_status stop) (done ++ stop_text stop)
     × Appends old new done
 
--- a text without a site that the task takes, whose line stands in its place; or want of memory
+-- a text without a good site, whose line stands in its place; or want of memory
 abbrev pub BarsSite : Stop → Result Parts Word → Type 0
 BarsSite (BadSite why) site = site ≡ Err (bad_site_text why)
-BarsSite NotBuilt site = site ≡ Err not_built_site
 BarsSite NoMemory site = Unit {0}
 BarsSite _ site = ⊥

@@ -6,8 +6,7 @@ ghost use Rattle.dup_main.specs.Reach.{ReadsNoFurther};
 ghost use Rattle.dup_main.specs.Stops.{StopsAt};
 ghost use Rattle.dup_main.specs.Transcript.{WritesTranscript};
 
-use crate::form::good_site;
-use crate::site_part::read_site_text;
+use crate::site_part::{good_site, read_site_text};
 use crate::stop::Stop;
 use dup_io::{Lines, Sink, Source, put_all};
 use dup_site::site_text;

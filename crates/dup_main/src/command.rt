@@ -3,14 +3,14 @@ ghost use Rattle.std.specs.Option.{option_copied};
 ghost use Rattle.dup_feed.specs.Feed.{feed_says};
 ghost use Rattle.dup_template.specs.Good.{behind};
 ghost use Rattle.dup_main.specs.Commands.{command_of, seen};
-ghost use Rattle.dup_transcript.specs.Commands.{IsPutting, by_message, by_start, by_words, four_words, get_command, if_more, is_one_put, is_put, message_of, mode_of, node_command, of_message, one_word, playable as as_played};
+ghost use Rattle.dup_transcript.specs.Commands.{by_message, by_start, by_words, four_words, get_command, if_more, message_of, mode_of, node_command, of_message, one_word};
 ghost use Rattle.dup_transcript.specs.Numbers.{number_of};
 
 use crate::number::read_number;
 use dup_feed::{FeedRefusal, read_commit};
-use dup_model::{Edit, Mode};
+use dup_model::Mode;
 use dup_names::{NoMemory, Path, are_spaces, is_word, trimmed, words_of};
-use dup_records::{Change, Commit};
+use dup_records::Commit;
 use dup_transcript::Command;
 use std::alloc::Global;
 
@@ -86,29 +86,6 @@ fn by_words(words: &[&[u8]]) -> Command<Commit>
     }
 }
 
-fn is_put(change: &Change) -> bool
-    ensures { result ≡ is_put change.now }
-{
-    matches!(
-        change.edit(),
-        Edit::Put {
-            kind: _,
-            key: _,
-            fields: _
-        }
-    )
-}
-
-/// Whether a commit is one put.
-fn is_one_put(commit: &Commit) -> bool
-    ensures { result ≡ is_one_put commit.now }
-{
-    match commit.changes() {
-        [change] => is_put(change),
-        _ => false,
-    }
-}
-
 fn commit_command(alloc: Global, message: &[u8]) -> Result<Command<Commit>, NoMemory>
     ensures { IfOk result (λ command. command ≡ of_message (feed_says message.now)) }
 {
@@ -148,22 +125,4 @@ pub(crate) fn read_command(alloc: Global, text: &[u8]) -> Result<Command<Commit>
     ensures { IfOk result (λ command. command ≡ command_of text.now) }
 {
     by_start(alloc, trimmed(text))
-}
-
-/// What is played of a command: a commit of more than one put isn't built.
-#[tactic(auto, using(crate::proofs::Puts::playable_puts))]
-pub(crate) fn playable(command: Command<Commit>) -> Command<Commit>
-    ensures command { result ≡ as_played command }
-    ensures one { IsPutting result }
-{
-    match command {
-        Command::Commit(commit) => {
-            if is_one_put(&commit) {
-                Command::Commit(commit)
-            } else {
-                Command::NotBuilt
-            }
-        }
-        command => command,
-    }
 }

@@ -63,7 +63,6 @@ fn finish<K: Sink>(alloc: Global, out: &mut K, stop: Stop) -> u8
             Ok(text) => end(out, 5, &text),
             Err(_) => 6,
         },
-        Stop::NotBuilt => end(out, 5, b"bad site: not built\n"),
         Stop::NoMemory => 6,
         Stop::LineTooLong(number) => match too_long_line(alloc, number) {
             Ok(text) => end(out, 7, text.as_bytes()),
@@ -74,7 +73,8 @@ fn finish<K: Sink>(alloc: Global, out: &mut K, stop: Stop) -> u8
 }
 
 /// Does what a task is.
-fn perform<S: Source, K: Sink>(
+fn perform<R: Threads + Sync, S: Source, K: Sink>(
+    rt: &R,
     alloc: Global,
     task: Task,
     input: &mut S,
@@ -91,7 +91,7 @@ fn perform<S: Source, K: Sink>(
     ensures writes { FaultHasCause result Stop.WriteFault (K.faults out.old) (K.faults out.new) }
 {
     match task {
-        Task::Play => play(alloc, input, out),
+        Task::Play => play(rt, alloc, input, out),
         Task::Check => check_site(alloc, input, out),
         Task::Render => render_site(alloc, input, out),
     }
@@ -104,15 +104,14 @@ fn perform<S: Source, K: Sink>(
 ///   end and wrote each page of the last content.
 /// - 2: the words are no command line that is known; nothing was read, and the usage line was written.
 /// - 3: the source failed; 4: the sink failed, whatever else was found.
-/// - 5: the site text was read whole, and is no good site, or for `play` none of the form that can be played:
-///   the line says why.
+/// - 5: the site text was read whole, and is no good site: the line says why.
 /// - 6: want of memory.
 /// - 7: a line of over 262,144 bytes was read, or over 2^30 bytes of input.
 ///
-/// A settle costs what rendering each row's page costs, and a render ends with each page from scratch; a
-/// commit copies the list of the kind's rows; a request is a look-up.
+/// A commit, a settle and a request cost what they cost the press; a render ends with each page from scratch.
+/// A settle joins in as many threads as there are processors.
 pub fn desk_main<R: Threads + Sync, S: Source, K: Sink>(
-    _rt: &R,
+    rt: &R,
     alloc: Global,
     words: &[String],
     input: &mut S,
@@ -157,7 +156,7 @@ pub fn desk_main<R: Threads + Sync, S: Source, K: Sink>(
     let Some(task) = task_of(words) else {
         return end(out, 2, USAGE);
     };
-    match perform(alloc, task, input, out) {
+    match perform(rt, alloc, task, input, out) {
         Ok(()) => 0,
         Err(stop) => finish(alloc, out, stop),
     }

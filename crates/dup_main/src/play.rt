@@ -6,15 +6,17 @@ ghost use Rattle.dup_main.specs.Faults.{FaultHasCause};
 ghost use Rattle.dup_main.specs.Stops.{StopsAt};
 ghost use Rattle.dup_main.specs.Transcript.{WritesTranscript};
 
-use crate::form::first_site;
 use crate::script::play_script;
-use crate::site_part::read_site_text;
+use crate::site_part::{good_site, read_site_text};
 use crate::stop::Stop;
 use dup_io::{Lines, Sink, Source, put_all};
 use std::alloc::Global;
+use std::marker::Sync;
+use std::thread::Threads;
 
 /// Reads a site, says that it is good, and plays the script behind it.
-pub(crate) fn play<S: Source, K: Sink>(
+pub(crate) fn play<R: Threads + Sync, S: Source, K: Sink>(
+    rt: &R,
     alloc: Global,
     input: &mut S,
     out: &mut K,
@@ -29,10 +31,10 @@ pub(crate) fn play<S: Source, K: Sink>(
 {
     let mut lines = Lines::new(input);
     let read = read_site_text(alloc, &mut lines)?;
-    let site = first_site(alloc, &read.text)?;
+    let site = good_site(alloc, &read.text)?;
     put_all(out, b"site ok\n")?;
     if !read.has_script {
         return Ok(());
     }
-    play_script(alloc, site, &mut lines, out)
+    play_script(rt, alloc, site, &mut lines, out)
 }

@@ -7,9 +7,8 @@ ghost use Rattle.dup_main.specs.Stops.{StopsAt};
 ghost use Rattle.dup_main.specs.Transcript.{WritesTranscript};
 
 use crate::all_pages::put_pages;
-use crate::form::good_site;
 use crate::render_lines::{first_content, render_lines};
-use crate::site_part::read_site_text;
+use crate::site_part::{good_site, read_site_text};
 use crate::stop::Stop;
 use dup_io::{Lines, Sink, Source};
 use std::alloc::Global;

@@ -1,36 +1,37 @@
-ghost use Rattle.std.specs.Prelude.{◌≡◌, ◌≢◌, ◌+◌, OnOk, IfErr, IsErrOf, Err, None, true};
+ghost use Rattle.std.specs.Prelude.{◌≡◌, ◌≢◌, ◌+◌, OnOk, IfErr, IsErrOf, Err, None};
 ghost use Rattle.std.specs.Io.KnownBytes.{IsAtEnd};
 ghost use Rattle.dup_io.specs.Causes.{Rose};
 ghost use Rattle.dup_io.specs.Lines.{to_read, source_of, reference_of, number_of, fault_of};
-ghost use Rattle.dup_transcript.specs.FirstForm.{is_first_form};
 ghost use Rattle.dup_main.specs.Faults.{FaultHasCause};
-ghost use Rattle.dup_main.specs.Commands.{played_of};
+ghost use Rattle.dup_main.specs.Commands.{command_of};
 ghost use Rattle.dup_main.specs.Stops.{StopsInScript, WritesScript};
-ghost use Rattle.dup_transcript.specs.Sessions.{Writes, first_session};
+ghost use Rattle.dup_transcript.specs.Turns.{Writes, first_standing};
 
-use crate::command::{playable, read_command};
+use crate::command::read_command;
 use crate::session::Session;
 use crate::stop::Stop;
 use dup_io::{Lines, Sink, Source, put_all};
 use dup_template::Site;
 use std::alloc::Global;
+use std::marker::Sync;
+use std::thread::Threads;
 
 /// Does each line of the script, and writes its answer before it reads the next.
-pub(crate) fn play_script<'s, S: Source, K: Sink>(
+pub(crate) fn play_script<'s, R: Threads + Sync, S: Source, K: Sink>(
+    rt: &R,
     alloc: Global,
     site: Site,
     lines: &mut Lines<'s, S>,
     out: &mut K,
 ) -> Result<(), Stop>
     requires no_fault { fault_of lines.old ≡ None }
-    requires form { is_first_form site ≡ true }
     ensures same_reference { reference_of lines.new ≡ reference_of lines.old }
     ensures written { OnOk result (WritesScript
-        (Writes played_of site first_session (number_of lines.old)) (to_read S.left lines.old)
+        (Writes command_of site first_standing (number_of lines.old)) (to_read S.left lines.old)
         (K.written out.old) (K.written out.new)) }
     ensures at_end { OnOk result (IsAtEnd (S.left (source_of lines.new))) }
     ensures stopped { IfErr result (λ stop. StopsInScript stop
-        (Writes played_of site first_session (number_of lines.old)) (to_read S.left lines.old)
+        (Writes command_of site first_standing (number_of lines.old)) (to_read S.left lines.old)
         (K.written out.old) (K.written out.new)) }
     ensures reads { FaultHasCause result Stop.ReadFault (S.faults (source_of lines.old)) (S.faults (source_of lines.new)) }
     ensures writes { FaultHasCause result Stop.WriteFault (K.faults out.old) (K.faults out.new) }
@@ -40,9 +41,8 @@ pub(crate) fn play_script<'s, S: Source, K: Sink>(
         let Some(line) = lines.next(alloc)? else {
             return Ok(());
         };
-        let asked = read_command(alloc, &line.bytes)?;
-        let command = playable(asked);
-        let text = session.act(alloc, line.number, command)?;
+        let command = read_command(alloc, &line.bytes)?;
+        let text = session.act(rt, alloc, line.number, command)?;
         put_all(out, &text)?;
     }
 }

@@ -1,4 +1,4 @@
-ghost use Rattle.std.specs.Prelude.{◌≡◌, ◌≢◌, ◌++◌, IfOk, IfErr, OnOk, IsErrOf, Err, None, Some, if◌then◌else◌};
+ghost use Rattle.std.specs.Prelude.{◌≡◌, ◌≢◌, ◌++◌, IfOk, IfErr, Ok, OnOk, IsErrOf, Err, None, Some, if◌then◌else◌};
 ghost use Rattle.std.specs.Bool.{OnFalse, OnTrue};
 ghost use Rattle.dup_names.specs.Lines.{Whole};
 ghost use Rattle.std.specs.Io.KnownBytes.{IsAtEnd};
@@ -6,12 +6,16 @@ ghost use Rattle.dup_io.specs.Causes.{Rose};
 ghost use Rattle.dup_io.specs.Lines.{to_read, source_of, reference_of, number_of, fault_of};
 ghost use Rattle.dup_names.specs.Lines.{line as line_text};
 ghost use Rattle.dup_main.specs.Faults.{FaultHasCause};
-ghost use Rattle.dup_main.specs.Stops.{CountsSite, ReadsSite, StopsInSite};
+ghost use Rattle.dup_main.specs.Stops.{BarsSite, CountsSite, ReadsSite, StopsInSite};
+ghost use Rattle.dup_site.specs.Reads.{site_says};
+ghost use Rattle.dup_transcript.specs.BadSites.{or_cause};
 ghost use Rattle.dup_transcript.specs.Inputs.{is_end};
 
 use crate::stop::Stop;
 use dup_io::{Lines, Source};
 use dup_names::NoMemory;
+use dup_site::read_site;
+use dup_template::Site;
 use std::alloc::Global;
 
 /// A site text, and whether a script follows it.
@@ -68,4 +72,12 @@ pub(crate) fn read_site_text<'s, S: Source>(
         }
         put_line(&line.bytes, &mut text)?;
     }
+}
+
+/// The good site that a text says.
+pub(crate) fn good_site(alloc: Global, text: &[u8]) -> Result<Site, Stop>
+    ensures site { IfOk result (λ site. or_cause (site_says text.now) ≡ Ok site) }
+    ensures stopped { IfErr result (λ stop. BarsSite stop (or_cause (site_says text.now))) }
+{
+    Ok(read_site(alloc, text)?)
 }

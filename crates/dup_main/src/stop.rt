@@ -10,7 +10,6 @@ pub(crate) enum Stop {
     ReadFault,
     WriteFault,
     BadSite(SiteTextRefusal),
-    NotBuilt,
     NoMemory,
     LineTooLong(u64),
     InputTooLong,

@@ -2,15 +2,15 @@ ghost use Rattle.std.specs.Prelude.{◌≡◌, ◌≢◌, ◌≤◌, ◌+◌, �
 ghost use Rattle.std.specs.Fmt.{decimal};
 ghost use Rattle.dup_model.specs.Commits.{Refusal};
 ghost use Rattle.dup_records.specs.Refusals.{Names};
-ghost use Rattle.dup_main.specs.Kept.{page_of};
 ghost use Rattle.dup_transcript.specs.BadSites.{rule_text};
 ghost use Rattle.dup_transcript.specs.Texts.{bad_feed_text, bad_line_text, found_text, refusal_text, settled_text};
 ghost use Rattle.dup_names.specs.Lines.{line};
 
 use crate::bad_site::put_rule;
-use crate::edition::EditionPage;
+use dup_edition::Page;
 use dup_model::FeedRefusal;
 use dup_names::NoMemory;
+use dup_press::Summary;
 use dup_records::CommitRefusal;
 use dup_template::SiteRefusal;
 use std::alloc::{AllocError, Global};
@@ -116,35 +116,37 @@ pub(crate) fn no_node_text(alloc: Global, node: u16) -> Result<String, AllocErro
     format!(in alloc; "no node {node}\n")
 }
 
-pub(crate) fn settled_text(
-    alloc: Global,
-    version: u64,
-    edition: u64,
-    bundles: u64,
-    renewed: usize,
-    kept: usize,
-) -> Result<String, AllocError>
-    ensures { IfOk result (λ text. string_bytes text ≡ settled_text edition bundles
-        (record { version = version; expanded = renewed; joined = renewed; kept = kept })) }
+pub(crate) fn settled_text(alloc: Global, summary: Summary) -> Result<String, AllocError>
+    ensures { IfOk result (λ text. string_bytes text ≡ settled_text summary.edition summary.bundles
+        (record {
+          version = summary.version;
+          expanded = summary.expanded;
+          joined = summary.joined;
+          kept = summary.kept;
+        })) }
 {
+    let Summary {
+        version,
+        edition,
+        bundles,
+        expanded,
+        joined,
+        kept,
+    } = summary;
     format!(in alloc;
-        "settled {version} edition {edition} bundles {bundles} expanded {renewed} joined {renewed} kept {kept}\n"
+        "settled {version} edition {edition} bundles {bundles} expanded {expanded} joined {joined} kept {kept}\n"
     )
 }
 
-pub(crate) fn found_text(
-    alloc: Global,
-    edition: u64,
-    page: &EditionPage,
-) -> Result<Vec<u8>, NoMemory>
-    ensures { IfOk result (λ text. (path : List ℕ) →
-        text.items ≡ found_text edition (page_of path page.now)) }
+pub(crate) fn found_text(alloc: Global, edition: u64, page: &Page) -> Result<Vec<u8>, NoMemory>
+    ensures { IfOk result (λ text. text.items ≡ found_text edition page.now) }
 {
-    let version = page.version;
-    let length = page.bytes.len();
+    let version = page.version();
+    let bytes = page.look().bytes.bytes();
+    let length = bytes.len();
     let head = format!(in alloc; "found {edition} {version} miss {length}\n")?;
     let mut text = head.into_bytes();
-    text.extend_from_slice(&page.bytes)?;
+    text.extend_from_slice(bytes)?;
     text.push(b'\n')?;
     Ok(text)
 }

@@ -140,11 +140,11 @@ family /p/k v
 }
 
 #[test]
-fn a_good_site_of_another_form_is_checked_and_not_played(rt: HostRuntime) -> Result<(), Fail> {
+fn a_good_site_is_checked_and_played(rt: HostRuntime) -> Result<(), Fail> {
     let two: &[u8] = b"kind a\nkind b\ntemplate t of a\nend\nfamily /p t\n";
     for site in [two, RESULTS_SITE, FORMS, b""] {
         ends(&rt, checking(64), site, 0, site)?;
-        ends(&rt, in_pieces(64), site, 5, b"bad site: not built\n")?;
+        ends(&rt, in_pieces(64), site, 0, b"site ok\n")?;
     }
     Ok(())
 }

@@ -153,15 +153,21 @@ fn commands_outside_the_table_are_not_built(rt: HostRuntime) -> Result<(), Fail>
 }
 
 #[test]
-fn commits_of_another_form_are_not_built(rt: HostRuntime) -> Result<(), Fail> {
-    let lines: [&[u8]; 5] = [
-        b"commit",
-        b"commit   ",
-        b"commit\t{}",
-        b"commit {\"changes\":[{\"remove\":\"event\",\"key\":\"e1\"}]}",
-        b"commit {\"changes\":[{\"put\":\"event\",\"key\":\"e1\",\"fields\":{}},{\"put\":\"event\",\"key\":\"e2\",\"fields\":{}}]}",
-    ];
+fn commits_without_a_message_are_not_built(rt: HostRuntime) -> Result<(), Fail> {
+    let lines: [&[u8]; 3] = [b"commit", b"commit   ", b"commit\t{}"];
     each_answers(&rt, &lines, b"not built 9\n")
+}
+
+#[test]
+fn commits_of_any_form_are_answered(rt: HostRuntime) -> Result<(), Fail> {
+    answers(
+        &rt,
+        b"commit {\"changes\":[{\"remove\":\"event\",\"key\":\"e1\"}]}
+commit {\"changes\":[{\"put\":\"event\",\"key\":\"e1\",\"fields\":{}},{\"put\":\"event\",\"key\":\"e2\",\"fields\":{}}]}
+commit {\"changes\":[{\"remove\":\"event\",\"key\":\"e1\"}]}
+",
+        b"refused no row at 1\ncommitted 1\ncommitted 2\n",
+    )
 }
 
 #[test]

@@ -43,8 +43,8 @@ fn line_of(alloc: Global, line: &str) -> Result<String, AllocError> {
     format!(in alloc; "{line}\n")
 }
 
-// Over this site each line has the answer beside it.
-fn row_holds(
+/// Over this site each line has the answer beside it.
+pub(crate) fn row_holds(
     rt: &(impl Abort + Alloc<A = Global> + Threads + Sync),
     site: &[u8],
     row: &[(&str, &str)],

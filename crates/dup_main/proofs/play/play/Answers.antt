@@ -1,10 +1,10 @@
 use Rattle.std.proofs.Common.{refl, rules, []}
 use Rattle.std.specs.Prelude.{Ok}
-use Rattle.dup_main.specs.Commands.{played_of}
+use Rattle.dup_main.specs.Commands.{command_of}
 use Rattle.dup_transcript.specs.declared.task.Task.TheVariants.{Play}
 use Rattle.dup_main.proofs.WholeRuns.{reads_from, stopped_by_site, with_script, without_script, ended_without_script, count_with_script, written_by_script, stopped_by_script, does_play}
 use Rattle.std.proofs.KnownBytes.{Appends-nil}
-use Rattle.dup_transcript.specs.Sessions.{Writes, first_session}
+use Rattle.dup_transcript.specs.Turns.{Writes, first_standing}
 use Rattle.dup_transcript.specs.Transcript.{site_ok}
 use Rattle.dup_main.proofs.play.play.Goals as goal
 
@@ -16,7 +16,7 @@ returns-in_err-site-clause-stopped g c =
 
 pub returns-clause-written : goal.returns-clause-written
 returns-clause-written g c =
-    written_by_script Play site_ok (λ site n. Writes played_of site first_session n) does_play _ _ _ _ _ _ _ c.in_ok-read.read.text.items c.deref.result.now c.in_ok-site.site _
+    written_by_script Play site_ok (λ site n. Writes command_of site first_standing n) does_play _ _ _ _ _ _ _ c.in_ok-read.read.text.items c.deref.result.now c.in_ok-site.site _
     (reads_from _ _ _ _ c.new-lines.ensures.ahead c.new-lines.ensures.first c.new-lines.ensures.taken)
     (with_script c.in_ok-read.read.has_script _ _ _ _ (search rules) c.in_ok-read.ensures.text)
     (count_with_script c.in_ok-read.read.has_script _ _ _ (search rules) c.new-lines.ensures.first c.in_ok-read.ensures.lines)
@@ -24,7 +24,7 @@ returns-clause-written g c =
 
 pub returns-clause-stopped : goal.returns-clause-stopped
 returns-clause-stopped g c =
-    stopped_by_script Play site_ok (λ site n. Writes played_of site first_session n) does_play _ _ _ _ _ _ _ c.in_ok-read.read.text.items c.deref.result.now c.in_ok-site.site _
+    stopped_by_script Play site_ok (λ site n. Writes command_of site first_standing n) does_play _ _ _ _ _ _ _ c.in_ok-read.read.text.items c.deref.result.now c.in_ok-site.site _
     (reads_from _ _ _ _ c.new-lines.ensures.ahead c.new-lines.ensures.first c.new-lines.ensures.taken)
     (with_script c.in_ok-read.read.has_script _ _ _ _ (search rules) c.in_ok-read.ensures.text)
     (count_with_script c.in_ok-read.read.has_script _ _ _ (search rules) c.new-lines.ensures.first c.in_ok-read.ensures.lines)
@@ -32,7 +32,7 @@ returns-clause-stopped g c =
 
 pub returns-then-not-read-clause-written : goal.returns-then-not-read-clause-written
 returns-then-not-read-clause-written g c =
-    ended_without_script Play site_ok (λ site n. Writes played_of site first_session n) does_play (Ok tt) _ _ _ _ _ c.in_ok-read.read.text.items c.deref.result.now [] c.in_ok-site.site
+    ended_without_script Play site_ok (λ site n. Writes command_of site first_standing n) does_play (Ok tt) _ _ _ _ _ c.in_ok-read.read.text.items c.deref.result.now [] c.in_ok-site.site
     (reads_from _ _ _ _ c.new-lines.ensures.ahead c.new-lines.ensures.first c.new-lines.ensures.taken)
     (without_script c.in_ok-read.read.has_script _ _ _ _ (search rules) c.in_ok-read.ensures.text)
-    c.deref.ensures.value c.in_ok-site.ensures.site c.in_ok-put_all.ensures.all (λ n. refl) (Appends-nil _)
+    c.deref.ensures.value c.in_ok-site.ensures.site c.in_ok-put_all.ensures.all (λ n before f. refl) (Appends-nil _)

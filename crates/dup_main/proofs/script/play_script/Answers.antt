@@ -1,12 +1,14 @@
-use Rattle.std.proofs.Common.{refl, ap, ◌∙◌, Err, subst, arith, rules}
+use Rattle.std.proofs.Common.{refl, ap, ◌∙◌, Err, subst, rules}
 use Rattle.dup_io.specs.declared.lines.LineFault.{LineFault}
 use Rattle.dup_template.specs.declared.site.Parts.{Parts}
 use Rattle.dup_main.proofs.CutScripts.{stops_in_script, stops_on_write}
-use Rattle.dup_main.proofs.ScriptSoFar.{begun, more, ended, reaches, Acts}
+use Rattle.dup_main.proofs.ScriptSoFar.{begun, more, ended, reaches}
 use Rattle.dup_main.proofs.SiteSoFar.{due_of}
 use Rattle.dup_io.specs.Lines.{number_of}
-use Rattle.dup_main.specs.Commands.{played_of}
-use Rattle.dup_transcript.specs.Sessions.{Writes, first_session}
+use Rattle.dup_model.specs.Journal.{usual_limits}
+use Rattle.dup_main.specs.Kept.{standing}
+use Rattle.dup_main.specs.Commands.{command_of}
+use Rattle.dup_transcript.specs.Turns.{Turns, Writes, first_standing}
 use Rattle.dup_main.proofs.script.play_script.Goals as goal
 
 pub lines-init : goal.lines-init
@@ -16,9 +18,7 @@ lines-init g c = record {
   read_faults = refl;
   write_faults = refl;
   site = c.in_ok-session.ensures.site;
-  ready = c.in_ok-session.ensures.ready;
-  versions = omega (arith, c.in_ok-session.ensures.version.0);
-  editions = omega (arith, c.in_ok-session.ensures.version.1);
+  usual = c.in_ok-session.ensures.usual;
   played = begun _ _ _ _ _ c.in_ok-session.ensures.first;
 }
 
@@ -39,14 +39,12 @@ lines-preserved g c = record {
   read_faults = search rules;
   write_faults = search rules;
   site = search rules;
-  ready = c.in_ok-text.ensures.ready;
-  versions = search rules;
-  editions = search rules;
-  played = more _ _ _ _ _ _ _ _ _ _ _ _ _ c.in-Some.line.bytes.items c.in_ok-text.text.items c.playable-command.result c.lines.invariant.played
+  usual = search rules;
+  played = more _ _ _ _ _ _ _ _ _ _ _ _ _ c.in-Some.line.bytes.items c.in_ok-text.text.items c.in_ok-command.command c.lines.invariant.played
       (search rules) (search rules)
-      (subst (λ (p : Parts). Acts p c.lines.session c.act.new.self c.in-Some.line.number c.playable-command.result c.in_ok-text.text.items) c.lines.invariant.site c.in_ok-text.ensures.acts)
+      (subst (λ (p : Parts). Turns p usual_limits (standing c.lines.session) c.in-Some.line.number c.in_ok-command.command c.in_ok-text.text.items (standing c.act.new.self)) c.lines.invariant.site c.in_ok-text.ensures.acts)
       (search rules) (search rules) (search rules);
 }
 
 pub returns-in_err-put_all-clause-stopped : goal.returns-in_err-put_all-clause-stopped
-returns-in_err-put_all-clause-stopped g c = stops_on_write _ (Writes played_of c.args.site first_session (number_of c.args.lines.now)) _ (g.K.Sink.written c.args.out.now) _ c.from_residual-in_err-put_all.ensures.1
+returns-in_err-put_all-clause-stopped g c = stops_on_write _ (Writes command_of c.args.site first_standing (number_of c.args.lines.now)) _ (g.K.Sink.written c.args.out.now) _ c.from_residual-in_err-put_all.ensures.1

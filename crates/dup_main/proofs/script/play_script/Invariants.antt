@@ -1,8 +1,8 @@
-use Rattle.std.proofs.Common.{◌≡◌, ◌-◌, ◌*◌, ◌^◌, ◌≤◌}
+use Rattle.std.proofs.Common.{◌≡◌, ◌-◌}
 use Rattle.std.specs.Prelude.{None}
 use Rattle.dup_names.specs.Lines.{max_input}
 use Rattle.dup_io.specs.Lines.{to_read, reference_of, source_of, number_of, fault_of}
-use Rattle.dup_main.specs.Kept.{IsReady}
+use Rattle.dup_main.specs.Kept.{IsUsual, standing}
 use Rattle.dup_main.proofs.ScriptSoFar.{Played}
 use Rattle.dup_main.proofs.script.play_script.Given as goal
 
@@ -12,12 +12,10 @@ invariant-lines g l = record {
   no_fault : fault_of l.lines ≡ None;
   read_faults : g.S.Source.faults (source_of l.lines) ≡ g.S.Source.faults (source_of l.fn.lines);
   write_faults : g.K.Sink.faults l.out ≡ g.K.Sink.faults l.fn.out;
-  site : l.session.site.value ≡ l.fn.site;
-  ready : IsReady l.session;
-  versions : l.session.version ≤ number_of l.lines;
-  editions : l.session.edition.number ≤ 2 ^ 30 * (number_of l.lines);
+  site : l.session.press.works.journal.site ≡ l.fn.site;
+  usual : IsUsual l.session;
   played : Played l.fn.site (to_read g.S.Source.left l.fn.lines) (to_read g.S.Source.left l.lines) (g.K.Sink.written l.fn.out) (g.K.Sink.written l.out)
-      (number_of l.fn.lines) (number_of l.lines) l.session;
+      (number_of l.fn.lines) (number_of l.lines) (standing l.session);
 }
 
 abbrev pub decreases-lines : goal.decreases-lines

@@ -7,5 +7,6 @@ use Rattle.dup_main.proofs.texts.settled_text.Goals as goal
 
 pub returns : goal.returns
 returns c =
-    let P : String Global → Type 0 = λ text. string_bytes text ≡ settled_text c.args.edition c.args.bundles (record { version = c.args.version; expanded = c.args.renewed; joined = c.args.renewed; kept = c.args.kept }) in
+    let P : String Global → Type 0 = λ text. string_bytes text
+    ≡ settled_text c.args.summary.edition c.args.summary.bundles (record { version = c.args.summary.version; expanded = c.args.summary.expanded; joined = c.args.summary.joined; kept = c.args.summary.kept }) in
     IfOk-weaker _ _ P (λ text is. is ∙ simp append_assoc) c.format.ensures.ok

@@ -1,13 +1,14 @@
 use Rattle.std.proofs.Common.{rules}
-use Rattle.dup_main.proofs.Commits.{commit_acts, ready_after}
+use Rattle.dup_main.proofs.Acting.{accepted_acts, refused_acts}
 use Rattle.dup_main.proofs.session.Session.commit.Goals as goal
 
-pub returns-in_err-committed_text-in-Ok-clause-ready : goal.returns-in_err-committed_text-in-Ok-clause-ready
-returns-in_err-committed_text-in-Ok-clause-ready c = ready_after c.args.self.now c.in-Ok.content c.args.commit c.requires.ready c.in-Ok.ensures.after c.requires.one
+pub returns-in_ok-committed_text-in-Ok-clause-acts : goal.returns-in_ok-committed_text-in-Ok-clause-acts
+returns-in_ok-committed_text-in-Ok-clause-acts c =
+    accepted_acts c.args.self.now c.commit.new.self c.args.commit c.in-Ok.version c.into_bytes.result.items c.requires c.in-Ok.ensures.step (search rules)
 
-pub returns-in-Ok-clause-ready : goal.returns-in-Ok-clause-ready
-returns-in-Ok-clause-ready c = ready_after c.args.self.now c.in-Ok.content c.args.commit c.requires.ready c.in-Ok.ensures.after c.requires.one
-
-pub returns-in-Ok-clause-acts : goal.returns-in-Ok-clause-acts
-returns-in-Ok-clause-acts c =
-    commit_acts c.args.self.now c.in-Ok.content c.args.commit c.into_bytes.result.items c.in-Ok.ensures.after c.in-Ok.ensures.fits (search rules)
+pub returns-in_ok-refusal_text-in-Err : goal.returns-in_ok-refusal_text-in-Err
+returns-in_ok-refusal_text-in-Err c = record {
+  site = search rules;
+  usual = search rules;
+  acts = refused_acts c.args.self.now c.commit.new.self c.args.commit c.in-Err.why c.in_ok-refusal_text-in-Err.field-0.items c.requires c.in-Err.ensures.err c.in-Err.ensures.refused (search rules) c.in_ok-refusal_text-in-Err.ensures;
+}
