@@ -137,6 +137,12 @@ module _ (e : Logged) (t : Aim) (commits : List Commit) (paths : List Path) wher
       let parts : (has (changed_paths (edition e.log) t.pages) q ≡ true) × (not (has paths q) ≡ true) = and_parts _ _ (sym (has_filter (λ q. not (has paths q)) (changed_paths (edition e.log) t.pages) q) ∙ inside) in
       (parts.0, not-true _ parts.1)
 
+-- what is changed once paths are published
+pub left_published : (e : Logged) (t : Aim) (commits : List Commit) (paths : List Path) →
+    filter (λ q. not (has paths q)) (changed_paths (edition e.log) t.pages) ≡ changed_paths (edition (appended e (bundle_of t.pages t.version commits paths)).log) t.pages
+unfolding after
+left_published e t commits paths = left_after e t commits paths
+
 -- so the bundles over the changed paths and their needs are those that are published
 pub scheduled : (need : Path → Path → Bool) (t : Aim) (bundles : List (List Path)) (e : Logged) → ((p q : Path) → has (changed_paths (edition e.log) t.pages) q ≡ true → is_needed e t p q ≡ need p q) →
     IsOrder need (changed_paths (edition e.log) t.pages) bundles → IsSchedule e t bundles

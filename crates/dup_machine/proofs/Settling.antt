@@ -174,7 +174,7 @@ module _ (site : Parts) (limits : Limits) (w0 : World) where
       let parts : (is_in (found end done) o ≡ true) × (is_in done o ≡ false) = waiting_parts end done o h in
       in_filter (λ x. not (is_in done x)) (live end) o ∙ and_from _ _ (found_live end done o parts.0) (ap not parts.1)
 
-  one_done : (done : List Obj) (o : Obj) → is_in (waiting end done) o ≡ true →
+  pub one_done : (done : List Obj) (o : Obj) → is_in (waiting end done) o ≡ true →
       suc (length (without (is_in (in_order obj_cmp (o ∷ done))) (live end))) ≡ length (without (is_in done) (live end))
   one_done done o h =
       let parts : (is_in (found end done) o ≡ true) × (is_in done o ≡ false) = waiting_parts end done o h in
@@ -320,7 +320,7 @@ module _ (site : Parts) (limits : Limits) (w0 : World) where
     ];
   }
 
-  level_less : (work : Work) → length (unjoined end (with_joined (level end work) work)) + length (level end work) ≡ length (unjoined end work)
+  pub level_less : (work : Work) → length (unjoined end (with_joined (level end work) work)) + length (level end work) ≡ length (unjoined end work)
   level_less work =
       ap (λ l. length l + length (level end work)) (filter_same (λ x. not (is_in (in_order obj_cmp (level end work ++ work.looked)) x)) (λ x. not (is_in (level end work) x || is_in work.looked x)) (found end work.done)
       (λ x inside. ap not (in_both (level end work) work.looked x)))
