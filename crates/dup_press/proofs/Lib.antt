@@ -1,1 +1,10 @@
 pub mod Works
+pub mod Aims
+pub mod Fits
+pub mod Chains
+pub mod Pressing
+pub mod Sending
+pub mod Settling
+pub mod Standing
+pub mod Looping
+pub mod Settled

@@ -1,6 +1,7 @@
 -- Works stay at versions of the journal, call by call.
 use Rattle.std.proofs.Common.{◌≡◌, ◌≤◌, ◌+◌, ℕ, Bool, true, false, refl, sym, ap, ◌∙◌, subst, List, [], ◌∷◌, ◌++◌, length, arith, length-append}
-use Rattle.std.specs.Prelude.{Option, Some, None, Result, Ok, Err, IfOk, OnOk, drop, take, if◌then◌else◌}
+use Rattle.std.specs.Prelude.{Option, Some, None, Result, Ok, Err, IfErr, IfOk, IfSome, IsSome, OnOk, drop, take, if◌then◌else◌}
+use Rattle.std.proofs.lemmas.Bool.{true≢false}
 use Rattle.std.proofs.lemmas.Grind.{fold-append}
 use Rattle.std.proofs.lemmas.List.{take_all, take-append-le, take-append-drop}
 use Rattle.std.specs.List.{fold}
@@ -16,22 +17,24 @@ use Rattle.dup_template.specs.Frame.{Frame, frame_of}
 use Rattle.dup_model.specs.Content.{Content, start}
 use Rattle.dup_model.specs.Expansions.{stale}
 use Rattle.dup_model.specs.Found.{waiting}
-use Rattle.dup_model.specs.Pages.{page_looks}
+use Rattle.dup_model.specs.Pages.{live, page_looks}
 use Rattle.dup_model.specs.Versions.{content, version}
 use Rattle.dup_machine.specs.Builds.{Build, begin_in, finish_in, finished_in, hand_in, handed_by, join_in, joined_in, kept_by, opened_at, put_in}
-use Rattle.dup_machine.specs.Presses.{Press, begun_version, build_at, commit_step, with_build}
+use Rattle.dup_machine.specs.Presses.{Press, begun_version, build_at, commit_step, finish_step, with_build}
 use Rattle.dup_machine.specs.World as machine
 use Rattle.dup_machine.specs.World.{Begun, Work}
 use Rattle.dup_machine.specs.World.Told.{Unasked}
 use Rattle.dup_machine.specs.Works.{first_work, level, moved, next_of, unjoined, work_from}
-use Rattle.dup_build.specs.Answers.{SaysPut}
-use Rattle.dup_build.specs.Built.{Built, closed, with_works}
+use Rattle.dup_build.specs.Answers.{IsUnclosed, SaysPut, finish_told}
+use Rattle.dup_build.specs.Built.{Built, closed, done_by, done_in, unjoined_by, waiting_by, with_works}
+use Rattle.dup_build.specs.declared.answers.Closing.{Closing}
+use Rattle.dup_build.specs.declared.answers.Finish.{Finish}
 use Rattle.dup_build.specs.declared.answers.Put.{Put}
 use Rattle.dup_build.specs.declared.answers.Put.TheVariants as put
 use Rattle.dup_model.specs.Editions.{Bundle}
 use Rattle.dup_press.specs.Journaled.{Journaled}
 use Rattle.dup_records.specs.declared.refusal.CommitRefusal.{CommitRefusal}
-use Rattle.dup_press.specs.Worked.{IsStep, Worked, pages_at, press_of}
+use Rattle.dup_press.specs.Worked.{IsStep, Worked, built_of, pages_at, press_of}
 use Rattle.dup_press.specs.Workshop.{AreAt, IsWorkshop}
 
 last-version : (site : Parts) (commits : List Commit) → content site commits ≡ version site commits (length commits)
@@ -101,7 +104,7 @@ pub joined_at : (site : Parts) (commits : List Commit) (b : Build) (work : Optio
 joined_at site commits b None at is = at
 joined_at site commits b (Some work) at is = joined-at site commits b work (waiting b.content work.done) (unjoined b.content work) (level b.content work) at is
 
-open-version : (site : Parts) (commits : List Commit) (b : Build) (work : Work) → AreAt site commits b → b.work ≡ Some work → b.version ≡ work.version
+pub open-version : (site : Parts) (commits : List Commit) (b : Build) (work : Work) → AreAt site commits b → b.work ≡ Some work → b.version ≡ work.version
 open-version site commits b work at is = at.begun ∙ ap (λ (w : Option Work). begun_version w b.target) is
 
 finished-at : (site : Parts) (commits : List Commit) (b : Build) (work : Work) (waits us : List Obj) → AreAt site commits b → b.work ≡ Some work →
@@ -160,7 +163,7 @@ same_build site commits b at =
 
 -- the workshop of a journal and a build
 abbrev pub worked : Journaled → Built → Worked
-worked j b = record { journal = j; target = b.works.target; work = b.works.work; pages = b.pages }
+worked j b = record { journal = j; target = b.works.target; work = b.works.work }
 
 -- a call of the build is the machine's step of the press
 pub step_of : (X : Type 0) (j : Journaled) (b new : Built) (log : List Bundle) (call : Build → X × Build) (answer : X) → AreAt j.site j.commits b.works →
@@ -188,7 +191,7 @@ begun-target : (v : ℕ) (c : Content) (work : Work) (told : Begun) (b : Build) 
 begun-target v c work told b true = refl
 begun-target v c work told b false = refl
 
-begun_target : (v : ℕ) (c : Content) (b : Build) (work : Option Work) (target : Option ℕ) → (begin_in v c work target b).1.target ≡ b.target
+pub begun_target : (v : ℕ) (c : Content) (b : Build) (work : Option Work) (target : Option ℕ) → (begin_in v c work target b).1.target ≡ b.target
 begun_target v c b (Some work) target = begun-target v c (moved b.content v c work) _ b _
 begun_target v c b None None = refl
 begun_target v c b None (Some a) = begun-target v c (work_from b.content v c) _ b _
@@ -197,7 +200,7 @@ handed-target : (b : Build) (work : Work) (o : Option Obj) → (handed_by work o
 handed-target b work None = refl
 handed-target b work (Some o) = refl
 
-handed_target : (b : Build) (work : Option Work) → (hand_in work b).1.target ≡ b.target
+pub handed_target : (b : Build) (work : Option Work) → (hand_in work b).1.target ≡ b.target
 handed_target b None = refl
 handed_target b (Some work) = handed-target b work (next_of work.last_handed (waiting b.content work.done))
 
@@ -210,7 +213,7 @@ put-target : (b : Build) (o : Obj) (ns : List (Item × Value)) (work : Work) (wa
 put-target b o ns work true = kept-target b o work (stale b.content ns)
 put-target b o ns work false = refl
 
-put_target : (b : Build) (o : Obj) (ns : List (Item × Value)) (work : Option Work) → (put_in o ns work b).1.target ≡ b.target
+pub put_target : (b : Build) (o : Obj) (ns : List (Item × Value)) (work : Option Work) → (put_in o ns work b).1.target ≡ b.target
 put_target b o ns None = refl
 put_target b o ns (Some work) = put-target b o ns work (is_in (waiting b.content work.done) o)
 
@@ -219,7 +222,7 @@ joined-target b work (o ∷ os) us next = refl
 joined-target b work [] [] next = refl
 joined-target b work [] (u ∷ us) next = refl
 
-joined_target : (b : Build) (work : Option Work) → (join_in work b).1.target ≡ b.target
+pub joined_target : (b : Build) (work : Option Work) → (join_in work b).1.target ≡ b.target
 joined_target b None = refl
 joined_target b (Some work) = joined-target b work (waiting b.content work.done) (unjoined b.content work) (level b.content work)
 
@@ -299,3 +302,42 @@ committed_step j new b commit v is accepted new_is = λ log.
 pub told_of : (r : Result ℕ CommitRefusal) (A B : Type 0) (P Q : ℕ → Type 0) → ((v : ℕ) → P v → A → B → Q v) → IfOk r P → OnOk r A → OnOk r B → IfOk r Q
 told_of (Ok v) A B P Q each p a b = each v p a b
 told_of (Err e) A B P Q each p a b = tt
+
+-- the build, from what its callers see of the workshop
+pub same_built : (j : Journaled) (b : Built) → IsWorkshop (record { journal = j; build = b }) → built_of (worked j b) ≡ b
+same_built j b is = λ i. record { works = same_build j.site j.commits b.works is.works i; pages = sym is.pages i }
+
+-- where a work isn't closed, the step of `finish` changes nothing
+pub unclosed_step : (j : Journaled) (b : Built) (r : Result Closing Finish) → AreAt j.site j.commits b.works →
+    IfErr r (λ finish. finish_told finish ≡ (finish_in b.works.work b.works).0) →
+    IfErr r (λ finish. IsUnclosed finish × (closed (finish_in b.works.work b.works) b ≡ b)) →
+    IfErr r (λ finish. IsUnclosed finish × IsStep (finish_step j.site b.works.work b.works.target) (worked j b) (machine.Told.Finished (finish_told finish)) (worked j b))
+unclosed_step j b (Ok closing) at told stays = tt
+unclosed_step j b (Err finish) at told stays = (
+  stays.0,
+  λ log. step_of machine.Told j b b log (λ (x : Build). (machine.Told.Finished (finish_in b.works.work x).0, (finish_in b.works.work x).1))
+      (machine.Told.Finished (finish_told finish)) at (ap machine.Told.Finished told) (ap (λ (x : Built). x.works) (sym stays.1)),
+)
+
+-- a work that is closed leaves its version as the target's
+closed-target : (b : Build) (work : Work) (waits us : List Obj) → waits ≡ [] → us ≡ [] → (finished_in work waits us b).1.target ≡ Some work.version
+closed-target b work waits us calm joined = λ i. (finished_in work (calm i) (joined i) b).1.target
+
+pub closed_target : (site : Parts) (commits : List Commit) (b : Built) (work : Option Work) (v : ℕ) → AreAt site commits b.works → b.works.work ≡ work → IsSome work →
+    waiting_by b.works.content work ≡ [] → unjoined_by b.works.content work ≡ [] → v ≡ b.works.version → (finish_in work b.works).1.target ≡ Some v
+closed_target site commits b None v at is busy calm joined same = absurd (true≢false (sym busy))
+closed_target site commits b (Some work) v at is busy calm joined same =
+    closed-target b.works work (waiting b.works.content work.done) (unjoined b.works.content work) calm joined
+    ∙ ap Some (sym (open-version site commits b.works work at is) ∙ sym same)
+
+-- between works all that is live at the target is known
+known-live : (site : Parts) (commits : List Commit) (b : Build) (n : ℕ) (target : Option ℕ) → AreAt site commits b → b.work ≡ None → b.target ≡ target → n ≡ length (done_by b.content target None) →
+    IfSome target (λ v. n ≡ length (live (version site commits v)))
+known-live site commits b n None at idle is count = tt
+known-live site commits b n (Some v) at idle is count =
+    count ∙ ap (λ (c : Content). length (live c)) (at.content ∙ ap (version site commits) (at.begun ∙ (λ i. begun_version (idle i) (is i))))
+
+pub known_live : (j : Journaled) (b : Built) (n : ℕ) → IsWorkshop (record { journal = j; build = b }) → b.works.work ≡ None → n ≡ length (done_in b.works) →
+    IfSome b.works.target (λ v. n ≡ length (live (version j.site j.commits v)))
+known_live j b n is idle count =
+    known-live j.site j.commits b.works n b.works.target is.works idle refl (count ∙ ap (λ (o : Option Work). length (done_by b.works.content b.works.target o)) idle)

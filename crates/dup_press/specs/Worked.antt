@@ -8,18 +8,18 @@ use Rattle.dup_model.specs.Commits.{Commit}
 use Rattle.dup_model.specs.Editions.{Bundle}
 use Rattle.dup_model.specs.Pages.{page_looks}
 use Rattle.dup_model.specs.Versions.{version}
-use Rattle.dup_machine.specs.Presses.{Press}
+use Rattle.dup_machine.specs.Presses.{Press, begun_version, build_at}
 use Rattle.dup_machine.specs.World.{Told, Work}
 use Rattle.dup_build.specs.Answers.{SaysPut}
+use Rattle.dup_build.specs.Built.{Built}
 use Rattle.dup_build.specs.declared.answers.Put.{Put}
 use Rattle.dup_press.specs.Journaled.{Journaled}
 
--- the journal, the version of the target, the open work, and the look of each page of the target in path order
+-- the journal, the version of the target, and the open work
 pub record Worked : Type 0 where
   pub journal : Journaled
   pub target : Option ℕ
   pub work : Option Work
-  pub pages : List (Path × Look)
 
 -- the machine's press, where this was published
 abbrev pub press_of : List Bundle → Worked → Press
@@ -29,6 +29,13 @@ press_of log w = record { commits = w.journal.commits; target = w.target; work =
 abbrev pub pages_at : Parts → List Commit → Option ℕ → List (Path × Look)
 pages_at site commits None = []
 pages_at site commits (Some v) = page_looks (version site commits v)
+
+-- its works and the pages of its target, as a build has them
+abbrev pub built_of : Worked → Built
+built_of w = record {
+  works = build_at w.journal.site (begun_version w.work w.target) (press_of [] w);
+  pages = pages_at w.journal.site w.journal.commits w.target;
+}
 
 -- this step of the machine's press tells this and leads here, whatever was published
 abbrev pub IsStep : (Press → Told × Press) → Worked → Told → Worked → Type 0

@@ -13,7 +13,6 @@ worked_in w = record {
   journal = w.journal;
   target = w.build.works.target;
   work = w.build.works.work;
-  pages = w.build.pages;
 }
 
 -- works are at the version of the last `begin`, and this and the target's are versions of these commits

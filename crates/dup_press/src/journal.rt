@@ -1,5 +1,5 @@
 // The commits that came.
-ghost use Rattle.std.specs.Prelude.{◌≡◌, ◌≤◌, ◌++◌, ◌∷◌, [], IfErr, IfOk, None, OnErr, OnOk, drop, length, map};
+ghost use Rattle.std.specs.Prelude.{◌≡◌, ◌≤◌, ◌++◌, ◌∷◌, [], IfErr, IfOk, None, OnErr, OnOk, drop, length, map, take};
 ghost use Rattle.dup_model.specs.Journal.{commit_refusal};
 ghost use Rattle.dup_model.specs.Versions.{content as content_after};
 ghost use Rattle.dup_records.specs.JournalSizes.{IsSizeOf, limits_of};
@@ -126,5 +126,14 @@ impl Journal {
         ensures { map (λ c. c.value) result.now ≡ drop version self.now.commits }
     {
         &self.commits[version as usize..]
+    }
+
+    /// The commits behind one version, up to another, in order. It takes no memory.
+    pub fn between(&self, from: u64, to: u64) -> &[Arc<Commit, Global>]
+        requires order { from ≤ to }
+        requires within { to ≤ length self.now.commits }
+        ensures { map (λ c. c.value) result.now ≡ drop from (take to self.now.commits) }
+    {
+        &self.commits[from as usize..to as usize]
     }
 }

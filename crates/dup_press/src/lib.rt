@@ -1,10 +1,15 @@
-//! What a press keeps: its journal of commits with the content that they make, and its works over it.
+//! The press: its journal of commits with the content that they make, its works, and what is published.
 #![tactic(auto)]
 
+mod answers;
 mod journal;
+mod press;
+mod settle;
 mod workshop;
 
+pub use answers::{Published, Status, Summary};
 pub use journal::Journal;
+pub use press::Press;
 pub use workshop::Workshop;
 
 #[cfg(test)]

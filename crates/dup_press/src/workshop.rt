@@ -1,23 +1,23 @@
 // Commits and works.
-ghost use Rattle.std.specs.Prelude.{◌≡◌, ◌≢◌, ◌↔◌, [], IfErr, IfOk, IfSome, IsTrue, None, OnErr, OnOk};
+ghost use Rattle.std.specs.Prelude.{◌≡◌, ◌≢◌, ◌↔◌, ◌++◌, ◌∷◌, [], IfErr, IfOk, IfSome, IsSome, IsTrue, None, OnErr, OnOk, Some, length};
 ghost use Rattle.std.specs.FinMap.Entries.{is_sorted};
 ghost use Rattle.dup_names.specs.Order.{text_cmp};
 ghost use Rattle.std.specs.Option.{option_map};
-ghost use Rattle.dup_build.specs.Answers.{ForTouched, begun_told, finish_told, joined_told};
-ghost use Rattle.dup_build.specs.Built.{once_by};
-ghost use Rattle.dup_build.specs.Paths.{AreTouched, SameElsewhere};
+ghost use Rattle.dup_build.specs.Answers.{IsUnclosed, begun_told, finish_told, joined_told};
+ghost use Rattle.dup_build.specs.Closing.{IsClosing};
 ghost use Rattle.dup_build.specs.Targets.{looks_of};
 ghost use Rattle.dup_machine.specs.Presses.{begin_step, begun_version, commit_step, finish_step, hand_step, join_step, put_step};
 ghost use Rattle.dup_machine.specs.World as machine;
 ghost use Rattle.dup_model.specs.Journal.{commit_refusal};
+ghost use Rattle.dup_model.specs.Pages.{live};
 ghost use Rattle.dup_model.specs.Versions.{version as content_at};
 ghost use Rattle.dup_records.specs.JournalSizes.{limits_of};
 ghost use Rattle.dup_records.specs.Refusals.{Names};
 ghost use Rattle.dup_template.specs.Frame.{frame_of};
-ghost use Rattle.dup_press.specs.Worked.{IsHand, IsPut, IsStep};
+ghost use Rattle.dup_press.specs.Worked.{IsHand, IsPut, IsStep, built_of, pages_at};
 
 use crate::journal::Journal;
-use dup_build::{Begun, Build, Finish, Job, Joined, Put};
+use dup_build::{Begun, Build, Closing, Finish, Job, Joined, Put};
 use dup_names::NoMemory;
 use dup_records::{Commit, CommitRefusal, Limits};
 use dup_render::{Expanded, Target};
@@ -56,7 +56,6 @@ impl Workshop {
           journal = record { site = site.value; limits = limits_of limits; commits = [] };
           target = None;
           work = None;
-          pages = [];
         }) }
     {
         let journal = Journal::new(alloc, Arc::try_clone(&site)?, limits)?;
@@ -70,6 +69,11 @@ impl Workshop {
         ensures step { IfOk result (λ version. IsStep (commit_step commit
             (commit_refusal self.old.journal.site self.old.journal.limits self.old.journal.commits commit))
             self.old (machine.Told.Committed version) self.new) }
+        ensures ok { OnOk result (self.new ≡ record self.old {
+          journal = record self.old.journal {
+            commits = self.old.journal.commits ++ commit ∷ [];
+          };
+        }) }
         ensures refused { IfErr result (λ why. Names why
             (commit_refusal self.old.journal.site self.old.journal.limits self.old.journal.commits commit)) }
         ensures err { OnErr result (self.new ≡ self.old) }
@@ -87,8 +91,9 @@ impl Workshop {
     /// The target, where one was made. Its paths rise.
     pub fn target(&self) -> Option<&Target>
         ensures version { option_map (λ t. t.now.version) result ≡ self.now.target }
-        ensures looks { IfSome result (λ t. looks_of t.now ≡ self.now.pages) }
-        ensures order { IsTrue (is_sorted text_cmp self.now.pages) }
+        ensures looks { IfSome result (λ t. looks_of t.now ≡ pages_at self.now.journal.site
+            self.now.journal.commits self.now.target) }
+        ensures order { IfSome result (λ t. IsTrue (is_sorted text_cmp (looks_of t.now))) }
     {
         self.build.target()
     }
@@ -154,6 +159,10 @@ impl Workshop {
         ensures foreign { IfOk result (λ put. (put ≡ Put.Foreign)
             ↔ (expanded.value.frame ≢ frame_of self.old.journal.site)) }
         ensures stays { expanded.value.frame ≢ frame_of self.old.journal.site → self.new ≡ self.old }
+
+        // The frames are the same.
+        ensures ours { IfOk result (λ put. put ≢ Put.Foreign →
+            expanded.value.frame ≡ frame_of self.old.journal.site) }
         ensures step { expanded.value.frame ≡ frame_of self.old.journal.site → IfOk result (λ put. IsPut
             (put_step self.old.journal.site expanded.value.obj expanded.value.notes self.old.work self.old.target)
             self.old expanded.value.obj put self.new) }
@@ -177,20 +186,40 @@ impl Workshop {
         Ok(joined)
     }
 
-    /// Closes the open work, where all that is found has a look: its looks are the target. The cost is
-    /// that of `Build::finish`.
-    pub fn finish(&mut self, alloc: Global) -> Result<Finish, NoMemory>
+    /// What closing the open work comes to, where all that is found has a look; else what `finish` answers,
+    /// which changes nothing. The cost is that of `Build::closing`.
+    pub fn closing(&self, alloc: Global) -> Result<Result<Closing, Finish>, NoMemory>
+        ensures closing { IfOk result (λ told. IfOk told (IsClosing (built_of self.now))) }
+        ensures stays { IfOk result (λ told. IfErr told (λ finish. IsUnclosed finish × IsStep
+            (finish_step self.now.journal.site self.now.work self.now.target) self.now
+            (machine.Told.Finished (finish_told finish)) self.now)) }
+    {
+        let closing = self.build.closing(alloc)?;
+        Ok(closing)
+    }
+
+    /// Closes the open work, given what this comes to: its looks are the target. The cost is that of
+    /// `Build::close`.
+    pub fn close(&mut self, alloc: Global, closing: Closing) -> Result<Finish, NoMemory>
+        requires { IsClosing (built_of self.old) closing }
         ensures step { IfOk result (λ finish. IsStep
             (finish_step self.old.journal.site self.old.work self.old.target) self.old
             (machine.Told.Finished (finish_told finish)) self.new) }
-        ensures touched { IfOk result (λ finish. ForTouched finish
-            (AreTouched (once_by self.old.work) self.old.pages self.new.pages)) }
-        ensures elsewhere { IfOk result (λ finish. ForTouched finish (λ paths.
-            SameElsewhere paths self.old.pages self.new.pages)) }
+        ensures target { OnOk result (self.new.target ≡ Some closing.target.version) }
         ensures journal { self.new.journal ≡ self.old.journal }
         ensures err { OnErr result (self.new ≡ self.old) }
     {
-        let finish = self.build.finish(alloc)?;
+        let finish = self.build.close(alloc, closing)?;
         Ok(finish)
+    }
+
+    /// How many live objects there are, where no work is open and there is a target.
+    pub fn live(&self) -> u64
+        requires idle { self.now.work ≡ None }
+        requires made { IsSome self.now.target }
+        ensures { IfSome self.now.target (λ v. result ≡ length (live (content_at self.now.journal.site
+            self.now.journal.commits v))) }
+    {
+        self.build.known()
     }
 }

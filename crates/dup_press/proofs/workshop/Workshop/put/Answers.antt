@@ -29,6 +29,12 @@ returns-clause-stays c =
     let same = frame_is j.site j.commits c.self.inside.build.works c.self.invariant.works ∙ ap (λ (w : Worked). frame_of w.journal.site) c.self.view_is in
     λ differ. ap (worked j) (c.in_ok-put.ensures.stays (λ is. differ (is ∙ same))) ∙ c.self.view_is
 
+pub returns-clause-ours : goal.returns-clause-ours
+returns-clause-ours c =
+    let j = c.self.inside.journal in
+    let same = frame_is j.site j.commits c.self.inside.build.works c.self.invariant.works ∙ ap (λ (w : Worked). frame_of w.journal.site) c.self.view_is in
+    λ other. c.in_ok-put.ensures.ours other ∙ same
+
 pub returns-clause-step : goal.returns-clause-step
 returns-clause-step c =
     let j = c.self.inside.journal in

@@ -1,0 +1,40 @@
+use Rattle.std.proofs.Common.{sym, ap, subst}
+use Rattle.dup_build.specs.Answers.{begun_told}
+use Rattle.dup_build.specs.declared.answers.Begun.{Begun}
+use Rattle.dup_template.specs.declared.site.Parts.{Parts}
+use Rattle.dup_machine.specs.Presses.{Press, begin_step}
+use Rattle.dup_machine.specs.World as machine
+use Rattle.dup_model.specs.Embeddings.{EmbedsEarlier}
+use Rattle.dup_press.specs.Pressed.{Tells, pressed}
+use Rattle.dup_press.specs.Turns.{IsWorking}
+use Rattle.dup_press.specs.declared.answers.Summary.{Summary}
+use Rattle.dup_press.proofs.Looping.{not_nothing_begun, same_twice}
+use Rattle.dup_press.proofs.Settled.{left_idle, left_made, settled_at_once, settled_by_work}
+use Rattle.dup_press.proofs.Settling.{begun_working}
+use Rattle.dup_press.proofs.press.Press.settle.Goals as goal
+
+any_summary : Summary
+any_summary = record { version = 0; edition = 0; bundles = 0; expanded = 0; joined = 0; kept = 0 }
+
+pub publish_left-requires-clause-idle : goal.publish_left-requires-clause-idle
+publish_left-requires-clause-idle g c =
+    left_idle c.args.self.now c.begin.new.self c.begin.new.self any_summary c.in_ok-begin.ensures.place c.in-Nothing.field-0
+    (subst (λ (b : Begun). Tells (begin_step c.args.self.now.works.journal.site c.args.self.now.works.work c.args.self.now.works.target) c.args.self.now (machine.Told.Begins (begun_told b)) c.begin.new.self) c.in-Nothing.is c.in_ok-begin.ensures.step)
+
+pub publish_left-requires-clause-made : goal.publish_left-requires-clause-made
+publish_left-requires-clause-made g c =
+    left_made c.args.self.now c.begin.new.self c.begin.new.self any_summary c.in_ok-begin.ensures.place c.in-Nothing.field-0
+    (subst (λ (b : Begun). Tells (begin_step c.args.self.now.works.journal.site c.args.self.now.works.work c.args.self.now.works.target) c.args.self.now (machine.Told.Begins (begun_told b)) c.begin.new.self) c.in-Nothing.is c.in_ok-begin.ensures.step)
+
+pub returns-in_ok-summary-in-Nothing-clause-settled : goal.returns-in_ok-summary-in-Nothing-clause-settled
+returns-in_ok-summary-in-Nothing-clause-settled g c =
+    settled_at_once c.args.self.now c.begin.new.self c.publish_left.new.self c.in_ok-summary-in-Nothing.summary c.in_ok-begin.ensures.place c.in-Nothing.field-0
+    (subst (λ (b : Begun). Tells (begin_step c.args.self.now.works.journal.site c.args.self.now.works.work c.args.self.now.works.target) c.args.self.now (machine.Told.Begins (begun_told b)) c.begin.new.self) c.in-Nothing.is c.in_ok-begin.ensures.step)
+    c.in_ok-summary-in-Nothing.ensures.published
+
+pub returns-in_ok-summary-in_default : goal.returns-in_ok-summary-in_default
+returns-in_ok-summary-in_default g c = record {
+  settled = settled_by_work c.args.self.now c.begin.new.self c.work_off.new.self c.in_ok-summary-in_default.summary c.in_ok-begin.ensures.place (begun_told c.in_ok-begin.field-0)
+      c.in_ok-begin.ensures.step c.in_ok-summary-in_default.ensures.worked;
+  place = same_twice c.args.self.now c.begin.new.self c.work_off.new.self c.in_ok-begin.ensures.place c.in_ok-summary-in_default.ensures.place;
+}
