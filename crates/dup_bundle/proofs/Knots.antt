@@ -1,10 +1,9 @@
--- Paths that all they reach reach back.
-use Rattle.std.proofs.Common.{◌≡◌, Bool, true, false, not, cond, ◌||◌, ◌&&◌, List, [], ◌∷◌, Some, refl, ap, ◌∙◌}
-use Rattle.std.specs.List.{filter, find, list_all}
+-- What is reached, and what is found.
+use Rattle.std.proofs.Common.{◌≡◌, Bool, true, false, cond, ◌&&◌, List, [], ◌∷◌, Some, ap, ◌∙◌}
+use Rattle.std.specs.List.{filter, find}
 use Rattle.dup_names.specs.Words.{Path}
 use Rattle.dup_model.specs.Bundles.{reached}
 use Rattle.dup_model.specs.Editions.{has}
-use Rattle.dup_model.specs.Bundles.{is_knot}
 use Rattle.std.proofs.lemmas.Bool.{or_left}
 use Rattle.std.proofs.lemmas.Option.{none-some, same_Some}
 use Rattle.std.specs.Ordering.{eq_by_cmp}
@@ -14,17 +13,6 @@ use Rattle.dup_model.proofs.Reached.{has_filter, or_right, tie_itself}
 module _ (need : Path → Path → Bool) (ps : List Path) where
   pub has_reached : (p q : Path) → has ps q ≡ true → has (filter (reached need ps p) ps) q ≡ reached need ps p q
   has_reached p q inside = has_filter (reached need ps p) ps q ∙ ap (λ b. b && reached need ps p q) inside
-
-  all_filter : (f g : Path → Bool) (xs : List Path) → list_all g (filter f xs) ≡ list_all (λ q. not (f q) || g q) xs
-  all_filter f g [] = refl
-  all_filter f g (x ∷ xs) = by_test (f x) (all_filter f g xs)
-    where
-      by_test : (b : Bool) → list_all g (filter f xs) ≡ list_all (λ q. not (f q) || g q) xs → list_all g (cond b (x ∷ filter f xs) (filter f xs)) ≡ ((not b || g x) && list_all (λ q. not (f q) || g q) xs)
-      by_test true rest = ap (λ b. g x && b) rest
-      by_test false rest = rest
-
-  pub knot_is : (p : Path) → list_all (λ q. reached need ps q p) (filter (reached need ps p) ps) ≡ is_knot need ps p
-  knot_is p = all_filter (reached need ps p) (λ q. reached need ps q p) ps
 
 pub found_there : (f : Path → Bool) (ps : List Path) (p : Path) → find f ps ≡ Some p → has ps p ≡ true
 found_there f [] p is = absurd (none-some p is)

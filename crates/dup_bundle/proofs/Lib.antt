@@ -5,3 +5,4 @@ pub mod Walk
 pub mod Hinting
 pub mod Knots
 pub mod Ordered
+pub mod Waiting

@@ -20,7 +20,7 @@ use Rattle.dup_bundle.proofs.Paths.{IsInOrder, same_members, shorter}
 
 module _ (need : Path → Path → Bool) (ps : List Path) where
   -- what is reached is in each set that is closed among the paths
-  in_closed : (s : Path → Bool) → ((p q : Path) → s p ≡ true → has ps q ≡ true → need p q ≡ true → s q ≡ true) →
+  pub in_closed : (s : Path → Bool) → ((p q : Path) → s p ≡ true → has ps q ≡ true → need p q ≡ true → s q ≡ true) →
       (rs : List Path) → ((r : Path) → has rs r ≡ true → has ps r ≡ true) → (p q : Path) → s p ≡ true → has ps q ≡ true → reached need rs p q ≡ true → s q ≡ true
   in_closed s closed [] within p q has_p inside h = elim (or_cases _ _ h) [
     | inl same ↦ subst (λ r. s r ≡ true) ((bytes_eq-Decides p q).0 same) has_p

@@ -4,3 +4,4 @@ pub mod Plans
 pub mod Hinted
 pub mod Schedule
 pub mod Staying
+pub mod Waiting

@@ -6,8 +6,10 @@ ghost use Rattle.dup_bundle.specs.Plans.{plan_of as plan_between};
 ghost use Rattle.dup_bundle.specs.Targets.{aim_of, IsByPath};
 
 use crate::changed::Changed;
+use crate::finding::Ways;
 use crate::hints::Hints;
 use crate::plan::{Plan, plan_of};
+use crate::queue::Queue;
 use crate::schedule::take_bundle;
 use crate::sorted::SortedTarget;
 use dup_edition::Edition;
@@ -29,7 +31,9 @@ pub fn bundle(alloc: Global, edition: &Edition, target: &Target) -> Result<Optio
     let target = &SortedTarget::of(target);
     let mut left = Changed::between(alloc, edition, target)?;
     let hints = Hints::whole(alloc, edition, target, &left)?;
-    match take_bundle(alloc, edition, target, &mut left, &hints)? {
+    let ways = Ways::with_hints(alloc, hints);
+    let mut queue = Queue::of(alloc, &left)?;
+    match take_bundle(alloc, edition, target, &mut left, &ways, &mut queue)? {
         None => Ok(None),
         Some(paths) => {
             let plan = plan_of(alloc, target, &paths)?;

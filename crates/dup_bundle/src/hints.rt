@@ -59,8 +59,8 @@ fn note_user(
     Ok(())
 }
 
-// Notes the path at another.
-fn note_linker(
+/// Notes the path at another.
+pub(crate) fn note_linker(
     alloc: Global,
     linkers: &mut BTreeMap<Path, Vec<Path>>,
     to: &Path,
@@ -76,7 +76,7 @@ fn note_linker(
 }
 
 // Whether one of these shows the object with just these bytes.
-fn is_shown(uses: &[(Obj, Bytes)], obj: &Obj, bytes: &Bytes) -> bool
+pub(crate) fn is_shown(uses: &[(Obj, Bytes)], obj: &Obj, bytes: &Bytes) -> bool
     ensures { result ≡ is_kept uses.now (obj.now, bytes.now) }
 {
     uses.iter()
@@ -166,7 +166,8 @@ fn note_links(
     Ok(())
 }
 
-fn uses(look: Option<&Arc<Look, Global>>) -> &[(Obj, Bytes)]
+/// What a page uses.
+pub(crate) fn uses(look: Option<&Arc<Look, Global>>) -> &[(Obj, Bytes)]
     ensures { result.now ≡ uses_of (option_map (λ l. l.value) (option_copied look.entry)) }
 {
     match look {
@@ -175,7 +176,8 @@ fn uses(look: Option<&Arc<Look, Global>>) -> &[(Obj, Bytes)]
     }
 }
 
-fn links(look: Option<&Arc<Look, Global>>) -> &[Path]
+/// What a page links to.
+pub(crate) fn links(look: Option<&Arc<Look, Global>>) -> &[Path]
     ensures { result.now ≡ links_of (option_map (λ l. l.value) (option_copied look.entry)) }
 {
     match look {
@@ -203,9 +205,51 @@ fn note_page(
     Ok(())
 }
 
+/// The paths noted at a path.
+pub(crate) fn noted<'a>(linkers: &'a BTreeMap<Path, Vec<Path>>, path: &Path) -> &'a [Path]
+    ensures { result.now ≡ linkers_of linkers.now path.now }
+{
+    match linkers.get(path) {
+        None => &[],
+        Some(paths) => paths,
+    }
+}
+
+// Notes the path at each of these objects at which another one is noted.
+fn note_aimed_uses(
+    alloc: Global,
+    users: &mut BTreeMap<Obj, Vec<Path>>,
+    hints: &Hints,
+    uses: &[(Obj, Bytes)],
+    path: &Path,
+) -> Result<(), NoMemory> {
+    for shown in uses {
+        if !hints.users(&shown.0).is_empty() {
+            note_user(alloc, users, &shown.0, path)?;
+        }
+    }
+    Ok(())
+}
+
+// Notes the path at each of these links that the edition lacks.
+fn note_aimed_links(
+    alloc: Global,
+    linkers: &mut BTreeMap<Path, Vec<Path>>,
+    edition: &Edition,
+    links: &[Path],
+    path: &Path,
+) -> Result<(), NoMemory> {
+    for link in links {
+        if shown(edition, link).is_none() {
+            note_linker(alloc, linkers, link, path)?;
+        }
+    }
+    Ok(())
+}
+
 impl Hints {
-    // No hints yet.
-    fn none(alloc: Global) -> Hints {
+    /// No hints yet.
+    pub(crate) fn none(alloc: Global) -> Hints {
         Hints {
             users: BTreeMap::new(alloc),
             linkers: BTreeMap::new(alloc),
@@ -250,6 +294,25 @@ impl Hints {
         Ok(hints)
     }
 
+    /// The hints the other way: for each object at which a path is noted the changed paths that will use
+    /// it, and for each path that the edition lacks the changed paths that will link to it. What they leave
+    /// out costs time and nothing else.
+    pub(crate) fn backward(
+        alloc: Global,
+        edition: &Edition,
+        target: &SortedTarget<'_>,
+        changed: &Changed,
+        hints: &Hints,
+    ) -> Result<Hints, NoMemory> {
+        let mut back = Hints::none(alloc);
+        for path in changed.paths() {
+            let look = target.look(path);
+            note_aimed_uses(alloc, &mut back.users, hints, uses(look), path)?;
+            note_aimed_links(alloc, &mut back.linkers, edition, links(look), path)?;
+        }
+        Ok(back)
+    }
+
     /// The paths noted at an object.
     pub(crate) fn users(&self, obj: &Obj) -> &[Path]
         ensures { result.now ≡ users_of self.now.users obj.now }
@@ -264,9 +327,6 @@ impl Hints {
     pub(crate) fn linkers(&self, path: &Path) -> &[Path]
         ensures { result.now ≡ linkers_of self.now.linkers path.now }
     {
-        match self.linkers.get(path) {
-            None => &[],
-            Some(paths) => paths,
-        }
+        noted(&self.linkers, path)
     }
 }

@@ -6,16 +6,20 @@
 
 mod bundling;
 mod changed;
+mod finding;
 mod hints;
 mod laws;
+mod levels;
 mod looks;
 mod needing;
+mod needing_back;
+mod order;
 mod path_set;
 mod plan;
+mod queue;
 mod reach;
 mod schedule;
 mod sorted;
-mod starting;
 
 pub use bundling::bundle;
 pub use changed::Changed;

@@ -83,8 +83,8 @@ fn add_listed(
     Ok(())
 }
 
-// Marks an object.
-fn mark(done: &mut BTreeSet<Obj>, obj: &Obj) -> Result<(), NoMemory>
+/// Marks an object.
+pub(crate) fn mark(done: &mut BTreeSet<Obj>, obj: &Obj) -> Result<(), NoMemory>
     ensures { OnOk result ((o : Object) → is_done done.new o ≡
         (is_eq (order.cmp obj.now o) || is_done done.old o)) }
 {
@@ -186,8 +186,8 @@ fn add_users(
     Ok(())
 }
 
-// Adds the changed paths that this one needs, where they are new.
-fn add_needed(
+/// Adds the changed paths that this one needs, where they are new.
+pub(crate) fn add_needed(
     edition: &Edition,
     target: &SortedTarget<'_>,
     changed: &Changed,

@@ -12,13 +12,16 @@ ghost use Rattle.dup_bundle.specs.Hinted.{AreComplete};
 ghost use Rattle.dup_bundle.specs.Plans.{plan_of as plan_between};
 ghost use Rattle.dup_bundle.specs.Schedule.{left_without, IsSchedule};
 ghost use Rattle.dup_bundle.specs.Targets.{Aim};
+ghost use Rattle.dup_bundle.specs.Waiting.{AreLevels, AreWaiting};
+ghost use Rattle.std.specs.List.Sorted.{IsStrictlySortedBy};
+ghost use Rattle.dup_names.specs.Order.{text_cmp};
 
 use crate::changed::Changed;
-use crate::hints::Hints;
+use crate::finding::{Ways, look};
+use crate::hints::note_linker;
 use crate::plan::{Plan, plan_of};
-use crate::reach::reach;
+use crate::queue::{Queue, wake};
 use crate::sorted::SortedTarget;
-use crate::starting::start_of;
 use dup_edition::Edition;
 use dup_names::{NoMemory, Path};
 use std::alloc::Global;
@@ -40,29 +43,43 @@ impl Model for Schedule {
     ghost view = { λ s. map (λ b. b.keys) s.bundles.items };
 }
 
-/// The bundle of the paths that are left, which leaves them.
+/// The bundle of the paths that are left, which leaves them. It looks at the ready paths in path order, up
+/// to the first that is a knot; what is none waits until what holds it is published.
 pub(crate) fn take_bundle(
     alloc: Global,
     edition: &Edition,
     target: &SortedTarget<'_>,
     left: &mut Changed,
-    hints: &Hints,
+    ways: &Ways,
+    queue: &mut Queue,
 ) -> Result<Option<BTreeSet<Path>>, NoMemory>
     requires left { AreChanged edition.now target.now left.old }
-    requires hints { AreComplete hints.now edition.now target.now }
+    requires hints { AreComplete ways.now.hints edition.now target.now }
+    requires levels { AreLevels (is_needed edition.now target.now) left.old ways.now.levels }
+    requires order { IsStrictlySortedBy text_cmp queue.old.ready.keys }
+    requires waiting { AreWaiting (is_needed edition.now target.now) left.old queue.old.ready.keys
+        queue.old.waiting }
     ensures bundle { IfOk result (λ taken.
         option_map (λ b. b.keys) taken ≡ bundle_from (is_needed edition.now target.now) left.old) }
     ensures left { OnOk result (left.new ≡
         left_without left.old (bundle_from (is_needed edition.now target.now) left.old)) }
+    ensures order { OnOk result (IsStrictlySortedBy text_cmp queue.new.ready.keys) }
+    ensures waiting { OnOk result (AreWaiting (is_needed edition.now target.now) left.new
+        queue.new.ready.keys queue.new.waiting) }
 {
-    match start_of(alloc, edition, target, left, hints)? {
-        None => Ok(None),
-        Some(start) => {
-            let paths = reach(alloc, edition, target, left, hints, &start)?;
-            left.leave(&paths);
-            Ok(Some(paths))
+    while let Some(path) = queue.ready.pop_first() {
+        if left.has(&path) {
+            match look(alloc, edition, target, left, ways, &path)? {
+                (_, Some(other)) => note_linker(alloc, &mut queue.waiting, &other, &path)?,
+                (paths, None) => {
+                    left.leave(&paths);
+                    wake(&mut queue.ready, &queue.waiting, &paths)?;
+                    return Ok(Some(paths));
+                }
+            }
         }
     }
+    Ok(None)
 }
 
 impl Schedule {
@@ -90,10 +107,11 @@ impl Schedule {
         requires sound { IsSound (target_looks target.now.pages) }
         ensures { IfOk result (λ made. IsSchedule edition.now target.now made) }
     {
-        let hints = Hints::between(alloc, edition, target, changed)?;
+        let ways = Ways::between(alloc, edition, target, changed)?;
         let mut left = changed.copy(alloc)?;
+        let mut queue = Queue::of(alloc, changed)?;
         let mut bundles = VecDeque::new(alloc);
-        while let Some(paths) = take_bundle(alloc, edition, target, &mut left, &hints)? {
+        while let Some(paths) = take_bundle(alloc, edition, target, &mut left, &ways, &mut queue)? {
             bundles.push_back(paths)?;
         }
         Ok(Schedule { bundles })

@@ -2,11 +2,11 @@ use Rattle.std.proofs.Common.{◌≡◌, true, sym, subst, ap, ◌∙◌}
 use Rattle.std.proofs.lemmas.Slice.Eq.{bytes_eq-Decides}
 use Rattle.dup_model.specs.Bundles.{reached}
 use Rattle.dup_model.proofs.Reached.{reached_itself, reached_needed}
-use Rattle.dup_bundle.proofs.starting.is_reached.Goals.{then-eq-via-then-eq, then-eq-via-else-eq+then-is_needed}
+use Rattle.dup_bundle.proofs.finding.is_reached.Goals.{then-eq-via-then-eq, then-eq-via-else-eq+then-is_needed}
 use Rattle.dup_model.specs.Editions.{has}
 use Rattle.dup_bundle.specs.Between.{is_needed}
 use Rattle.dup_bundle.proofs.Knots.{has_reached}
-use Rattle.dup_bundle.proofs.starting.is_reached.Goals as goal
+use Rattle.dup_bundle.proofs.finding.is_reached.Goals as goal
 
 pub returns : goal.returns
 returns c =
