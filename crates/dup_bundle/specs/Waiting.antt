@@ -28,7 +28,8 @@ AreLevels need paths levels = (n : ℕ) (p q : Path) → is_below (level_of leve
     has paths q ≡ true → need p q ≡ true → is_below (level_of levels q) n ≡ true
 
 -- of the paths those that are left have no level, and the others one below n
-pub record AreLevelled (need : Path → Path → Bool) (paths left : List Path) (levels : BTreeMap Path ℕ Global) (n : ℕ) : Type 0 where
+pub record AreLevelled (need : Path → Path → Bool) (paths left : List Path)
+    (levels : BTreeMap Path ℕ Global) (n : ℕ) : Type 0 where
   pub falls : AreLevels need paths levels
   pub taken : (q : Path) → has paths q ≡ true → has left q ≡ false → is_below (level_of levels q) n ≡ true
   pub bare : (q : Path) → has left q ≡ true → level_of levels q ≡ None
@@ -40,6 +41,7 @@ pub record IsHeldBy (need : Path → Path → Bool) (left : List Path) (p q : Pa
   pub apart : reached need left q p ≡ false
 
 -- each path that is left is ready, or waits at one that holds it
-abbrev pub AreWaiting : (Path → Path → Bool) → List Path → List Path → BTreeMap Path (Vec Path Global) Global → Type 0
+abbrev pub AreWaiting : (Path → Path → Bool) → List Path → List Path →
+    BTreeMap Path (Vec Path Global) Global → Type 0
 AreWaiting need left ready waiting = (p : Path) → has left p ≡ true → has ready p ≡ false →
     (q : Path) × IsHeldBy need left p q × (has (linkers_of waiting q) p ≡ true)

@@ -1,5 +1,6 @@
 // Whether a changed path is a knot, which all that it reaches reach back, or what holds it.
-ghost use Rattle.std.specs.Prelude.{◌≡◌, not, ◌+◌, ◌≤◌, true, false, None, length, IfOk, IfSome, IfNone, IsTrue, OnOk};
+ghost use Rattle.std.specs.Prelude.{◌≡◌, not, ◌+◌, ◌≤◌, true, false, None, length};
+ghost use Rattle.std.specs.Prelude.{IfOk, IfSome, IfNone, IsTrue, OnOk};
 ghost use Rattle.std.specs.List.{filter, find};
 ghost use Rattle.dup_model.specs.Editions.{target_looks};
 ghost use Rattle.dup_model.specs.Needs.{IsSound};

@@ -39,7 +39,8 @@ pub(crate) fn wake(
     out: &BTreeSet<Path>,
 ) -> Result<(), NoMemory>
     requires { IsStrictlySortedBy text_cmp ready.old.keys }
-    ensures keeps { OnOk result ((p : Word) → has ready.old.keys p ≡ true → has ready.new.keys p ≡ true) }
+    ensures keeps { OnOk result ((p : Word) →
+        has ready.old.keys p ≡ true → has ready.new.keys p ≡ true) }
     ensures wakes { OnOk result ((p q : Word) → has out.now.keys q ≡ true →
         has (linkers_of waiting.now q) p ≡ true → has ready.new.keys p ≡ true) }
     ensures order { IsStrictlySortedBy text_cmp ready.new.keys }

@@ -93,10 +93,15 @@ impl Schedule {
         }
     }
 
-    /// The bundles between an edition and a sound target, where the changed paths are known. For each bundle
-    /// it walks from the changed paths that are left, in path order, up to the first that all it reaches
-    /// reach back. A walk looks at the uses and links of the pages that it reaches, and at the users of an
-    /// object until all of them were seen.
+    /// The bundles between an edition and a sound target, where the changed paths are known.
+    ///
+    /// One walk along the needs and one against them put each changed path at a level, so that a path needs
+    /// none of a higher level and paths of one level mostly need each other. A path then waits at one of a
+    /// lower level that it reaches until that is published, and is looked at again. A look walks over paths
+    /// of one level, up to the first of a lower one. So where no two pages need each other a settle takes a
+    /// few steps for each need, and a bundle of m paths takes a look over m paths; but m paths that need
+    /// each other and wait for w others take up to m looks at first, and one more for each of the w.
+    /// Each look at an object that pages show otherwise walks its users until all of them were seen.
     pub fn between(
         alloc: Global,
         edition: &Edition,
