@@ -45,26 +45,26 @@ returns c =
       looks = c.in_ok-target.ensures.looks ∙ ap (λ (b : Built). page_looks b.works.content) c.self.view_is;
       rising = ap (is_sorted text_cmp) c.in_ok-target.ensures.looks ∙ page_looks_rise c.self.inside.stock.content;
       touched =
-        let work_is : c.args.self.now.works.work ≡ Some (work_in c.self.inside) = ap (λ (b : Built). b.works.work) (sym c.self.view_is) ∙ ap (λ (o : Bool). cond o (Some (work_in c.self.inside)) None) open_is in
-        let old : looks_by_path c.pages_of.result.now ≡ c.args.self.now.pages = c.pages_of.ensures ∙ ap (λ (b : Built). b.pages) c.self.view_is in
-        let new : looks_by_path c.items.result.now ≡ looks_of c.in_ok-target.target = ap looks_by_path c.items.ensures in
-        subst (λ (ps : List Path). AreTouched (once_by c.args.self.now.works.work) c.args.self.now.pages (looks_of c.in_ok-target.target) ps) (sym c.of.ensures)
-        (subst (λ os. AreTouched os c.args.self.now.pages (looks_of c.in_ok-target.target) c.in_ok-touched.touched.items) (sym (ap once_by work_is))
-        (subst (λ pages. AreTouched c.self.inside.once c.args.self.now.pages pages c.in_ok-touched.touched.items) new
-        (subst (λ pages. AreTouched c.self.inside.once pages (looks_by_path c.items.result.now) c.in_ok-touched.touched.items) old c.in_ok-touched.ensures.touched)));
+          let work_is : c.args.self.now.works.work ≡ Some (work_in c.self.inside) = ap (λ (b : Built). b.works.work) (sym c.self.view_is) ∙ ap (λ (o : Bool). cond o (Some (work_in c.self.inside)) None) open_is in
+          let old : looks_by_path c.pages_of.result.now ≡ c.args.self.now.pages = c.pages_of.ensures ∙ ap (λ (b : Built). b.pages) c.self.view_is in
+          let new : looks_by_path c.items.result.now ≡ looks_of c.in_ok-target.target = ap looks_by_path c.items.ensures in
+          subst (λ (ps : List Path). AreTouched (once_by c.args.self.now.works.work) c.args.self.now.pages (looks_of c.in_ok-target.target) ps) (sym c.of.ensures)
+          (subst (λ os. AreTouched os c.args.self.now.pages (looks_of c.in_ok-target.target) c.in_ok-touched.touched.items) (sym (ap once_by work_is))
+          (subst (λ pages. AreTouched c.self.inside.once c.args.self.now.pages pages c.in_ok-touched.touched.items) new
+          (subst (λ pages. AreTouched c.self.inside.once pages (looks_by_path c.items.result.now) c.in_ok-touched.touched.items) old c.in_ok-touched.ensures.touched)));
       order = subst (IsStrictlySortedBy text_cmp) (sym c.of.ensures) c.in_ok-touched.ensures.order;
       elsewhere =
-        let joined : without (is_in c.self.inside.stock.looked) (found c.self.inside.stock.content c.self.inside.stock.done) ≡ [] =
-        ap (λ (o : Bool). unjoined_by c.self.inside.stock.content (cond o (Some (work_in c.self.inside)) None)) (sym open_is)
-        ∙ ap (λ (b : Built). unjoined_by b.works.content b.works.work) c.self.view_is ∙ c.requires.joined in
-        let shown : All (IsCurrent c.self.inside.stock.content c.self.inside.stock.looked c.self.inside.once) (looks_in (pages_in c.self.inside.target)) =
-        subst (λ (o : Bool). All (IsCurrent c.self.inside.stock.content c.self.inside.stock.looked (cond o c.self.inside.once [])) (looks_in (pages_in c.self.inside.target))) open_is c.self.invariant.shown in
-        let touched : AreTouched c.self.inside.once (pages_in c.self.inside.target) (page_looks c.self.inside.stock.content) c.in_ok-touched.touched.items =
-        subst (λ pages. AreTouched c.self.inside.once pages (page_looks c.self.inside.stock.content) c.in_ok-touched.touched.items) c.pages_of.ensures
-        (subst (λ pages. AreTouched c.self.inside.once (looks_by_path c.pages_of.result.now) pages c.in_ok-touched.touched.items) (ap looks_by_path c.items.ensures ∙ c.in_ok-target.ensures.looks) c.in_ok-touched.ensures.touched) in
-        subst (λ (ps : List Path). SameElsewhere ps c.args.self.now.pages (looks_of c.in_ok-target.target)) (sym c.of.ensures)
-        (subst (λ pages. SameElsewhere c.in_ok-touched.touched.items pages (looks_of c.in_ok-target.target)) (ap (λ (b : Built). b.pages) c.self.view_is)
-        (subst (λ pages. SameElsewhere c.in_ok-touched.touched.items (pages_in c.self.inside.target) pages) (sym c.in_ok-target.ensures.looks)
-        (current_elsewhere c.self.inside.stock.content c.content.ensures.earlier c.self.inside.stock.done c.self.inside.stock.looked joined c.self.inside.once (pages_in c.self.inside.target)
-        c.in_ok-touched.touched.items shown touched)));
+          let joined : without (is_in c.self.inside.stock.looked) (found c.self.inside.stock.content c.self.inside.stock.done) ≡ [] =
+          ap (λ (o : Bool). unjoined_by c.self.inside.stock.content (cond o (Some (work_in c.self.inside)) None)) (sym open_is)
+          ∙ ap (λ (b : Built). unjoined_by b.works.content b.works.work) c.self.view_is ∙ c.requires.joined in
+          let shown : All (IsCurrent c.self.inside.stock.content c.self.inside.stock.looked c.self.inside.once) (looks_in (pages_in c.self.inside.target)) =
+          subst (λ (o : Bool). All (IsCurrent c.self.inside.stock.content c.self.inside.stock.looked (cond o c.self.inside.once [])) (looks_in (pages_in c.self.inside.target))) open_is c.self.invariant.shown in
+          let touched : AreTouched c.self.inside.once (pages_in c.self.inside.target) (page_looks c.self.inside.stock.content) c.in_ok-touched.touched.items =
+          subst (λ pages. AreTouched c.self.inside.once pages (page_looks c.self.inside.stock.content) c.in_ok-touched.touched.items) c.pages_of.ensures
+          (subst (λ pages. AreTouched c.self.inside.once (looks_by_path c.pages_of.result.now) pages c.in_ok-touched.touched.items) (ap looks_by_path c.items.ensures ∙ c.in_ok-target.ensures.looks) c.in_ok-touched.ensures.touched) in
+          subst (λ (ps : List Path). SameElsewhere ps c.args.self.now.pages (looks_of c.in_ok-target.target)) (sym c.of.ensures)
+          (subst (λ pages. SameElsewhere c.in_ok-touched.touched.items pages (looks_of c.in_ok-target.target)) (ap (λ (b : Built). b.pages) c.self.view_is)
+          (subst (λ pages. SameElsewhere c.in_ok-touched.touched.items (pages_in c.self.inside.target) pages) (sym c.in_ok-target.ensures.looks)
+          (current_elsewhere c.self.inside.stock.content c.content.ensures.earlier c.self.inside.stock.done c.self.inside.stock.looked joined c.self.inside.once (pages_in c.self.inside.target)
+          c.in_ok-touched.touched.items shown touched)));
     }
