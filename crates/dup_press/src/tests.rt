@@ -54,27 +54,34 @@ fn commit(
     told(alloc, press.commit(alloc, commit))
 }
 
-#[test]
-fn a_press_takes_what_its_limits_have_room_for(rt: HostRuntime) -> Result<(), Fail> {
-    let alloc = rt.alloc();
-    let limits = Limits {
-        rows: 1,
-        commits: 2,
-        bytes: 1000,
-    };
-    let mut press = press(alloc, limits)?;
+// Whether a press with room for two commits of one row answers each as it should.
+fn takes_two(alloc: Global, press: &mut Press<PlainOutlet>) -> Result<bool, Fail> {
     for (key, title, text) in [
         ("e1", "A", "committed 1"),
         ("e2", "A", "kind full at 1"),
         ("e1", "B", "committed 2"),
         ("e1", "C", "journal full: 2 commits, 26 bytes"),
     ] {
-        assert_eq!(&rt;
-            commit(alloc, &mut press, key, title)?.as_str(),
-            text,
-            "at {title} of {key}"
-        );
+        if commit(alloc, press, key, title)?.as_str() != text {
+            return Ok(false);
+        }
     }
+    Ok(true)
+}
+
+fn limits_hold(alloc: Global) -> Result<bool, Fail> {
+    let limits = Limits {
+        rows: 1,
+        commits: 2,
+        bytes: 1000,
+    };
+    let mut press = press(alloc, limits)?;
+    takes_two(alloc, &mut press)
+}
+
+#[test]
+fn a_press_takes_what_its_limits_have_room_for(rt: HostRuntime) -> Result<(), Fail> {
+    assert!(&rt; limits_hold(rt.alloc())?, "within the limits");
     Ok(())
 }
 
@@ -126,19 +133,18 @@ fn is_published(alloc: Global, press: &mut Press<PlainOutlet>) -> Result<bool, F
     ))
 }
 
-#[test]
-fn a_commit_goes_out_step_by_step(rt: HostRuntime) -> Result<(), Fail> {
-    let alloc = rt.alloc();
-    let mut press = press(alloc, Limits::default())?;
-    commit(alloc, &mut press, "e1", "A")?;
+// Whether a commit goes out, call by call.
+fn goes_out(
+    rt: &(impl Threads + Sync),
+    alloc: Global,
+    press: &mut Press<PlainOutlet>,
+) -> Result<bool, Fail> {
+    commit(alloc, press, "e1", "A")?;
     press.begin(alloc)?;
-    assert!(&rt; put_one(alloc, &mut press)?, "put");
-    assert!(&rt; join_one(&rt, alloc, &mut press)?, "joined");
-    assert!(&rt; is_finished(alloc, &mut press)?, "finished");
-    assert!(&rt; press.status().pending, "pending");
-    assert!(&rt; is_published(alloc, &mut press)?, "published");
-    assert!(&rt; !press.status().pending, "nothing is pending");
-    Ok(())
+    let worked = put_one(alloc, press)? && join_one(rt, alloc, press)?;
+    let finished = is_finished(alloc, press)? && press.status().pending;
+    let published = is_published(alloc, press)? && !press.status().pending;
+    Ok(worked && finished && published)
 }
 
 // Whether a settle reports this.
@@ -153,27 +159,47 @@ fn settles(
     Ok(made == summary && meter.count() == summary.expanded)
 }
 
-#[test]
-fn a_settle_publishes_what_changed(rt: HostRuntime) -> Result<(), Fail> {
-    let alloc = rt.alloc();
-    let mut press = press(alloc, Limits::default())?;
-    commit(alloc, &mut press, "e1", "A")?;
-    let first = Summary {
-        version: 1,
-        edition: 1,
+// Whether the next commit goes out by a settle, and another settle does nothing.
+fn is_settled(
+    rt: &(impl Threads + Sync),
+    alloc: Global,
+    press: &mut Press<PlainOutlet>,
+) -> Result<bool, Fail> {
+    commit(alloc, press, "e2", "B")?;
+    let next = Summary {
+        version: 2,
+        edition: 2,
         bundles: 1,
         expanded: 1,
         joined: 1,
-        kept: 0,
+        kept: 1,
     };
     let again = Summary {
         bundles: 0,
         expanded: 0,
         joined: 0,
-        kept: 1,
-        ..first
+        kept: 2,
+        ..next
     };
-    assert!(&rt; settles(&rt, alloc, &mut press, first)?, "first");
-    assert!(&rt; settles(&rt, alloc, &mut press, again)?, "again");
+    let settled = settles(rt, alloc, press, next)?;
+    Ok(settled && settles(rt, alloc, press, again)?)
+}
+
+fn both_ways(
+    rt: &(impl Threads + Sync),
+    alloc: Global,
+    press: &mut Press<PlainOutlet>,
+) -> Result<bool, Fail> {
+    Ok(goes_out(rt, alloc, press)? && is_settled(rt, alloc, press)?)
+}
+
+fn commits_go_out(rt: &(impl Threads + Sync), alloc: Global) -> Result<bool, Fail> {
+    let mut press = press(alloc, Limits::default())?;
+    both_ways(rt, alloc, &mut press)
+}
+
+#[test]
+fn commits_go_out_call_by_call_and_by_a_settle(rt: HostRuntime) -> Result<(), Fail> {
+    assert!(&rt; commits_go_out(&rt, rt.alloc())?, "both ways");
     Ok(())
 }
