@@ -24,7 +24,8 @@ use Rattle.dup_model.proofs.Objects.{filter_same, in_filter}
 use Rattle.dup_model.proofs.Finds.{done_unless_waiting}
 use Rattle.dup_build.specs.declared.node.Node.{Node}
 use Rattle.dup_build.specs.declared.node.Shown.{Shown}
-use Rattle.dup_build.specs.declared.open.Open.{Open}
+use Rattle.dup_build.specs.declared.survey.Survey.{Survey}
+use Rattle.dup_build.proofs.Stocking.{same_held}
 use Rattle.dup_machine.specs.Closed.{IsClosed}
 use Rattle.dup_sets.specs.Entries.{at, objs}
 use Rattle.dup_build.specs.Looked.{look_at, last_look}
@@ -123,8 +124,8 @@ none_at es q out = by_entry (at es q) (sym (at_in es q) ∙ out)
     by_entry None h = refl
     by_entry (Some s) h = absurd (true≢false h)
 
-module _ (c : Content) (nodes : List (Obj × Node)) (looks : List (Obj × Shown)) (o : Open) (k : IsStock c nodes looks o) (calm : waiting c (objs nodes) ≡ [])
-    (more : List (Obj × Shown)) (o' : Open) (lvl : List Obj) where
+module _ (c : Content) (nodes : List (Obj × Node)) (looks : List (Obj × Shown)) (o : Survey) (k : IsStock c nodes looks o) (calm : waiting c (objs nodes) ≡ [])
+    (more : List (Obj × Shown)) (o' : Survey) (lvl : List Obj) where
   abbrev before : Stocked
   before = record { content = c; done = objs nodes; looked = objs looks }
 
@@ -132,14 +133,15 @@ module _ (c : Content) (nodes : List (Obj × Node)) (looks : List (Obj × Shown)
   work = record { version = 0; last_handed = None; done = objs nodes; looked = objs looks; once = []; expanded = 0; joined = 0 }
 
   pub joined_stock : lvl ≡ level_in before → objs more ≡ in_order obj_cmp (lvl ++ objs looks) → ((q : Obj) → look_at more q ≡ last_look q (look_at looks q) (map (look c) lvl)) →
-      o'.found ≡ o.found → o'.waiting ≡ o.waiting → o'.unjoined ≡ without (is_in lvl) o.unjoined → IsStock c nodes more o'
-  joined_stock is more_objs more_at finds waits unjoined_is =
+      o'.pages ≡ o.pages → o'.loose ≡ o.loose → o'.waiting ≡ o.waiting → o'.unjoined ≡ without (is_in lvl) o.unjoined → IsStock c nodes more o'
+  joined_stock is more_objs more_at same_pages same_loose waits unjoined_is =
       let looked : objs more ≡ in_order obj_cmp (level c work ++ objs looks) = more_objs ∙ ap (λ l. in_order obj_cmp (l ++ objs looks)) is in
       record {
         nodes_are = k.nodes_are;
         looks_are = λ q s at_q. last_right c q (look_at looks q) lvl (λ l h. by_old q l (at looks q) refl h) s.look.value (sym (more_at q) ∙ ap (option_map (λ (s : Shown). s.look.value)) at_q);
         closed = subst (IsClosed c (objs nodes)) (sym looked) (closed_once_joined c work k.closed calm);
-        finds = finds ∙ k.finds;
+        pages = same_pages ∙ k.pages;
+        held = same_held nodes o o' same_pages same_loose k.held;
         waits = waits ∙ k.waits;
         unjoined = unjoined_is ∙ (λ i. without (is_in (is i)) (k.unjoined i)) ∙ sym (level_leaves c work) ∙ ap (λ l. without (is_in l) (found c (objs nodes))) (sym looked);
         keyed = k.keyed;

@@ -14,3 +14,5 @@ pub mod Touching
 pub mod Showing
 pub mod Graphs
 pub mod Contents
+pub mod Holding
+pub mod Leaving

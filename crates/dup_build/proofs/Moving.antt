@@ -1,7 +1,8 @@
 -- A stock that goes on to another content.
-use Rattle.std.proofs.Common.{◌≡◌, ◌↔◌, Bool, true, false, not, cond, ◌&&◌, List, [], Option, Some, None, refl, sym, ap, subst, ◌∙◌}
+use Rattle.std.proofs.Common.{◌≡◌, ◌↔◌, Bool, true, false, not, cond, ◌&&◌, ◌||◌, inl, inr, List, [], Option, Some, None, refl, sym, ap, subst, ◌∙◌}
 use Rattle.std.specs.Prelude.{is_some}
 use Rattle.std.specs.Cmp.{both_ways}
+use Rattle.std.proofs.lemmas.Bool.{true≢false, cases_Bool, or_cases}
 use Rattle.std.proofs.lemmas.Option.{none-some}
 use Rattle.dup_names.specs.declared.object.Obj.{Obj}
 use Rattle.dup_model.specs.Content.{Content}
@@ -9,36 +10,66 @@ use Rattle.dup_model.specs.Skeletons.{embeds}
 use Rattle.dup_names.specs.Objects.{is_in}
 use Rattle.dup_model.specs.Touched.{without, touched, affected}
 use Rattle.dup_model.specs.Found.{found, waiting}
+use Rattle.dup_model.specs.Pages.{pages}
 use Rattle.dup_model.specs.ChangedItems.{KeysAreKeys}
 use Rattle.dup_model.specs.Embeddings.{EmbedsEarlier}
 use Rattle.dup_model.specs.Incremental.{IsSameAlone}
 use Rattle.dup_model.proofs.Incremental.{untouched_same, unaffected_same}
 use Rattle.dup_build.specs.declared.node.Node.{Node}
 use Rattle.dup_build.specs.declared.node.Shown.{Shown}
-use Rattle.dup_build.specs.declared.open.Open.{Open}
+use Rattle.dup_build.specs.declared.survey.Survey.{Survey}
 use Rattle.dup_machine.specs.Closed.{IsClosed}
 use Rattle.dup_sets.specs.Entries.{at, objs}
 use Rattle.dup_machine.specs.FoundGrows.{page_objs}
-use Rattle.dup_build.specs.Nodes.{children_of, below, IsNode}
+use Rattle.dup_build.specs.Nodes.{children_of, below, seen, IsNode}
 use Rattle.dup_machine.specs.Reached.{Reached, opened}
 use Rattle.dup_build.specs.Stock.{IsStock}
 use Rattle.dup_build.specs.Stocked.{Stocked}
-use Rattle.dup_machine.proofs.Closing.{closed_once_moved}
+use Rattle.dup_machine.proofs.Closing.{closed_once_moved, without_parts}
 use Rattle.dup_sets.proofs.Entries.{at_in}
-use Rattle.dup_machine.proofs.Growing.{found_is_reached}
-use Rattle.dup_machine.proofs.InOrder.{IsOrdered, same_ordered, ordered_found, in_without}
-use Rattle.dup_sets.proofs.Sets.{without_same}
+use Rattle.dup_machine.proofs.Growing.{found_is_reached, opened_below, reached_unseen}
+use Rattle.dup_machine.proofs.InOrder.{IsOrdered, same_ordered, ordered_filter, ordered_found, in_without}
+use Rattle.dup_sets.proofs.Sets.{without_same, without_twice}
+use Rattle.dup_build.proofs.Walking.{past_stops, without_stops}
+use Rattle.dup_build.proofs.Holding.{embedded_by, embedder, or_none, without_from}
+use Rattle.dup_build.specs.Loose.{is_embedded, is_held, shown_by, HoldsBut, Loosened}
 use Rattle.dup_build.proofs.Stocking.{reached_as}
 
--- what a walk from the pages' objects reaches is what is found
-pub surveyed : (c : Content) (nodes : List (Obj × Node)) (dropped done : List Obj) → EmbedsEarlier c → ((o : Obj) → below nodes dropped o ≡ opened c done o) → (none : List Obj) → none ≡ [] →
-    (roots : List Obj) → roots ≡ page_objs c → (fresh : List Obj) → IsOrdered fresh → ((g : Obj) → (is_in fresh g ≡ true) ↔ Reached (below nodes dropped) (is_in none) roots g) → fresh ≡ found c done
-surveyed c nodes dropped done earlier same none empty roots pages fresh ordered each = same_ordered fresh (found c done) ordered (ordered_found c done) (λ g.
-    let at : (is_in fresh g ≡ true) ↔ Reached (opened c done) (λ _. false) (page_objs c) g =
-    reached_as (below nodes dropped) (opened c done) same (is_in none) (λ _. false) (λ f. ap (λ l. is_in l f) empty) roots (page_objs c) pages (is_in fresh g ≡ true) g (each g) in
-    both_ways (is_in fresh g) (is_in (found c done) g)
-    (λ h. (found_is_reached c done g earlier).1 (at.0 h))
-    (λ h. at.1 ((found_is_reached c done g earlier).0 h)))
+module _ (c : Content) (nodes : List (Obj × Node)) (looks : List (Obj × Shown)) (dropped stale done : List Obj) (earlier : EmbedsEarlier c)
+    (same : (o : Obj) → below nodes dropped o ≡ opened c done o) (closed : IsClosed c done (without (is_in stale) (objs looks))) where
+  abbrev left_looks : List Obj
+  left_looks = without (is_in stale) (objs looks)
+
+  shut : (f g : Obj) → is_in left_looks f ≡ true → is_in (opened c done f) g ≡ true → is_in left_looks g ≡ true
+  shut f g h k = closed.embedded f g h (opened_below c done f g k).1
+
+  -- what a walk from the pages' objects reaches past what has a look is what is found and has none
+  pub surveyed : (none : List Obj) → none ≡ [] → (roots : List Obj) → roots ≡ page_objs c → (fresh : List Obj) → IsOrdered fresh →
+      ((g : Obj) → (is_in fresh g ≡ true) ↔ Reached (below nodes dropped) (seen looks stale none) roots g) → fresh ≡ without (is_in left_looks) (found c done)
+  surveyed none empty roots pages fresh ordered each = same_ordered fresh (without (is_in left_looks) (found c done)) ordered (ordered_filter (λ o. not (is_in left_looks o)) (found c done) (ordered_found c done)) (λ g.
+      let at : (is_in fresh g ≡ true) ↔ Reached (opened c done) (λ o. is_in left_looks o || false) (page_objs c) g =
+      reached_as (below nodes dropped) (opened c done) same (seen looks stale none) (λ o. is_in left_looks o || false) (λ f. ap (λ l. is_in left_looks f || is_in l f) empty)
+      roots (page_objs c) pages (is_in fresh g ≡ true) g (each g) in
+      both_ways (is_in fresh g) (is_in (without (is_in left_looks) (found c done)) g)
+      (λ h.
+      let way : Reached (opened c done) (λ o. is_in left_looks o || false) (page_objs c) g = at.0 h in
+      without_from (is_in left_looks) (found c done) g ((found_is_reached c done g earlier).1 (without_stops (opened c done) (is_in left_looks) (λ _. false) shut (page_objs c) way))
+      (sym (or_nothing (is_in left_looks g)) ∙ reached_unseen (opened c done) (λ o. is_in left_looks o || false) (page_objs c) way))
+      (λ h.
+      let parts : (is_in (found c done) g ≡ true) × (is_in left_looks g ≡ false) = without_parts (is_in left_looks) (found c done) g h in
+      at.1 (past_stops (opened c done) (is_in left_looks) (λ _. false) shut (page_objs c) ((found_is_reached c done g earlier).0 parts.0) parts.1)))
+    where
+      or_nothing : (b : Bool) → (b || false) ≡ b
+      or_nothing true = refl
+      or_nothing false = refl
+
+  -- and of that, what isn't done waits
+  pub waits_of : without (is_in done) (without (is_in left_looks) (found c done)) ≡ waiting c done
+  waits_of = without_twice (is_in done) (is_in left_looks) (found c done) ∙ without_same (λ x. is_in left_looks x || is_in done x) (is_in done) (found c done) (λ x h. by_looked x (is_in left_looks x) refl)
+    where
+      by_looked : (x : Obj) (b : Bool) → is_in left_looks x ≡ b → (b || is_in done x) ≡ is_in done x
+      by_looked x true h = sym (closed.is_done x h)
+      by_looked x false h = refl
 
 module _ (a b : Content) (frames : a.frame ≡ b.frame) where
   node_moved : (o : Obj) (n : Node) → touched a b o ≡ false → IsNode a o n → IsNode b o n
@@ -94,9 +125,13 @@ module _ (a b : Content) (nodes : List (Obj × Node)) (looks : List (Obj × Show
   pub looked_moved : without (is_in stale) (objs looks) ≡ without (affected a b) (objs looks)
   looked_moved = without_same (is_in stale) (affected a b) (objs looks) stales
 
+  pub closed_moved : a.frame ≡ b.frame → EmbedsEarlier a → IsClosed a (objs nodes) (objs looks) → IsClosed b (without (is_in dropped) (objs nodes)) (without (is_in stale) (objs looks))
+  closed_moved frames earlier closed = subst (λ l. IsClosed b l (without (is_in stale) (objs looks))) (sym done_moved)
+      (subst (IsClosed b (without (touched a b) (objs nodes))) (sym looked_moved) (closed_once_moved a b (objs nodes) (objs looks) frames earlier closed))
+
 -- each node and look that is left is its object's own at the next content
 module _ (a b : Content) (frames : a.frame ≡ b.frame) (earlier : EmbedsEarlier a)
-    (nodes : List (Obj × Node)) (looks : List (Obj × Shown)) (o : Open) (k : IsStock a nodes looks o) (keys : KeysAreKeys b) (dropped stale : List Obj)
+    (nodes : List (Obj × Node)) (looks : List (Obj × Shown)) (o : Survey) (k : IsStock a nodes looks o) (keys : KeysAreKeys b) (dropped stale : List Obj)
     (drops : (x : Obj) → is_in (objs nodes) x ≡ true → is_in dropped x ≡ touched a b x) (stales : (x : Obj) → is_in (objs looks) x ≡ true → is_in stale x ≡ affected a b x) where
   kept_from : (gone os : List Obj) (x : Obj) → is_in (without (is_in gone) os) x ≡ true → is_in os x ≡ true
   kept_from gone os x h = and_first (is_in os x) (not (is_in gone x)) (sym (in_without (is_in gone) os x) ∙ h)
@@ -105,11 +140,37 @@ module _ (a b : Content) (frames : a.frame ≡ b.frame) (earlier : EmbedsEarlier
       and_first true e h = refl
       and_first false e h = h
 
-  module _ (fewer : List (Obj × Node)) (fewer_looks : List (Obj × Shown)) (o' : Open)
+  module _ (fewer : List (Obj × Node)) (fewer_looks : List (Obj × Shown)) (o' : Survey)
       (fewer_at : (q : Obj) → at fewer q ≡ cond (is_in dropped q) None (at nodes q)) (fewer_objs : objs fewer ≡ without (is_in dropped) (objs nodes))
       (looks_at : (q : Obj) → at fewer_looks q ≡ cond (is_in stale q) None (at looks q)) (looks_objs : objs fewer_looks ≡ without (is_in stale) (objs looks))
-      (finds : o'.found ≡ found b (without (is_in dropped) (objs nodes))) (waits : o'.waiting ≡ waiting b (without (is_in dropped) (objs nodes)))
+      (pages_are : o'.pages ≡ pages b) (loose : Loosened o.pages o.loose nodes dropped o'.pages o'.loose) (waits : o'.waiting ≡ waiting b (without (is_in dropped) (objs nodes)))
       (unjoined : o'.unjoined ≡ without (is_in (without (is_in stale) (objs looks))) (found b (without (is_in dropped) (objs nodes)))) where
+    in_fewer : (q : Obj) → is_in (objs fewer) q ≡ (is_in (objs nodes) q && not (is_in dropped q))
+    in_fewer q = ap (λ l. is_in l q) fewer_objs ∙ in_without (is_in dropped) (objs nodes) q
+
+    -- what isn't held any more has come loose
+    held_moved : HoldsBut (shown_by o'.pages) fewer [] o'.loose
+    held_moved x inside free = by_held (is_held (shown_by o.pages) nodes [] x) refl
+      where
+        was : (is_in (objs nodes) x ≡ true) × (is_in dropped x ≡ false)
+        was = without_parts (is_in dropped) (objs nodes) x (sym (ap (λ l. is_in l x) fewer_objs) ∙ (without_parts (is_in []) (objs fewer) x inside).0)
+
+        unheld : (is_in (shown_by o'.pages) x ≡ false) × (is_embedded fewer [] x ≡ false)
+        unheld = or_none (is_in (shown_by o'.pages) x) (is_embedded fewer [] x) free
+
+        by_held : (b : Bool) → is_held (shown_by o.pages) nodes [] x ≡ b → is_in o'.loose x ≡ true
+        by_held false none = loose.before x (k.held x (without_from (is_in []) (objs nodes) x was.0 refl) none)
+        by_held true some = elim (or_cases (is_in (shown_by o.pages) x) (is_embedded nodes [] x) some) [
+          | inl page ↦ loose.left x page unheld.0
+          | inr in_one ↦
+              let e : (p : Obj) × (is_in (objs nodes) p ≡ true) × (is_in [] p ≡ false) × (is_in (children_of (at nodes p)) x ≡ true) = embedder nodes [] x in_one in
+              elim (cases_Bool (is_in dropped e.0)) [
+                | inl out ↦ loose.embedded e.0 x out e.3
+                | inr stays ↦ absurd (true≢false (sym (embedded_by fewer [] e.0 x (in_fewer e.0 ∙ (λ i. e.1 i && not (stays i))) refl
+                    (ap (λ n. is_in (children_of n) x) (fewer_at e.0 ∙ ap (λ d. cond d None (at nodes e.0)) stays) ∙ e.3)) ∙ unheld.1))
+              ]
+        ]
+
     pub moved_stock : IsStock b fewer fewer_looks o'
     moved_stock = record {
       nodes_are = λ q n is.
@@ -118,9 +179,10 @@ module _ (a b : Content) (frames : a.frame ≡ b.frame) (earlier : EmbedsEarlier
       looks_are = λ q s is.
           let was : (is_in stale q ≡ false) × (at looks q ≡ Some s) = still (is_in stale q) (at looks q) s (sym (looks_at q) ∙ is) in
           k.looks_are q s was.1 ∙ unaffected_same a b q frames (sym (stales q (at_in looks q ∙ ap is_some was.1)) ∙ was.0);
-      closed = subst (λ l. IsClosed b l (objs fewer_looks)) (sym (fewer_objs ∙ done_moved a b nodes looks dropped stale drops stales)) (subst (IsClosed b (without (touched a b) (objs nodes))) (sym (looks_objs ∙ looked_moved a b nodes looks dropped stale drops stales))
-          (closed_once_moved a b (objs nodes) (objs looks) frames earlier k.closed));
-      finds = finds ∙ ap (found b) (sym fewer_objs);
+      closed = subst (λ l. IsClosed b l (objs fewer_looks)) (sym fewer_objs) (subst (IsClosed b (without (is_in dropped) (objs nodes))) (sym looks_objs)
+          (closed_moved a b nodes looks dropped stale drops stales frames earlier k.closed));
+      pages = pages_are;
+      held = held_moved;
       waits = waits ∙ ap (waiting b) (sym fewer_objs);
       unjoined = unjoined ∙ (λ i. without (is_in (sym looks_objs i)) (found b (sym fewer_objs i)));
       keyed = λ q h. k.keyed q (kept_from dropped (objs nodes) q (ap (λ l. is_in l q) (sym fewer_objs) ∙ h));

@@ -34,7 +34,7 @@ or_second : (a b : Bool) → (a || b) ≡ false → b ≡ false
 or_second true b h = absurd (true≢false h)
 or_second false b h = h
 
-in_each : (f : Obj → List Obj) (os : List Obj) (x : Obj) → is_in (flat_map f os) x ≡ list_any (λ o. is_in (f o) x) os
+pub in_each : (f : Obj → List Obj) (os : List Obj) (x : Obj) → is_in (flat_map f os) x ≡ list_any (λ o. is_in (f o) x) os
 in_each f [] x = refl
 in_each f (o ∷ os) x = ap (λ l. is_in l x) (flat_map-cons f o os) ∙ any_append (same_obj x) (f o) (flat_map f os) ∙ ap (λ b. is_in (f o) x || b) (in_each f os x)
 

@@ -95,6 +95,19 @@ module _ (below : Obj → List Obj) (is_seen : Obj → Bool) where
       inside (root {g} h unseen) = w.rooted g h unseen
       inside (onward {f} k g h unseen) = w.onward f g (inside k) refl h unseen
 
+-- past objects that lead to no others, all else is reached as before
+module _ (below : Obj → List Obj) (stop others : Obj → Bool) (shut : (f g : Obj) → stop f ≡ true → is_in (below f) g ≡ true → stop g ≡ true) (roots : List Obj) where
+  pub past_stops : {g : Obj} → Reached below others roots g → stop g ≡ false → Reached below (λ o. stop o || others o) roots g
+  past_stops (root {g} h new) out = root h (either_false (stop g) (others g) out new)
+  past_stops (onward {f} k g h new) out = onward (past_stops k (elim (cases_Bool (stop f)) [
+    | inr isnt ↦ isnt
+    | inl is ↦ absurd (true≢false (sym (shut f g is h) ∙ out))
+  ])) g h (either_false (stop g) (others g) out new)
+
+  pub without_stops : {g : Obj} → Reached below (λ o. stop o || others o) roots g → Reached below others roots g
+  without_stops (root {g} h new) = root h (or_false (stop g) (others g) new).1
+  without_stops (onward {f} k g h new) = onward (without_stops k) g h (or_false (stop g) (others g) new).1
+
 pub below_within : (nodes : List (Obj × Node)) (dropped : List Obj) (o g : Obj) → is_in (below nodes dropped o) g ≡ true → is_in (children_of (at nodes o)) g ≡ true
 below_within nodes dropped o g h = by_test (is_in dropped o) h
   where

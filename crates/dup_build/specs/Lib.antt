@@ -8,3 +8,4 @@ pub mod Built
 pub mod Answers
 pub mod Build
 pub mod Closing
+pub mod Loose

@@ -511,9 +511,11 @@ impl Build {
         ensures build { OnOk result (self.new ≡ built.closed (built.finished self.old.works) self.old) }
         ensures err { OnErr result (self.new ≡ self.old) }
     {
-        let kept = self.stock.kept(alloc, &self.once)? as u64;
-        let gone = self.stock.forget(alloc)?;
+        self.once.len();
+        let once = self.once.list(alloc)?;
+        let gone = self.stock.forget(alloc, &self.graph)?;
         drop_all(&mut self.graph, &gone);
+        let kept = self.stock.kept(&once) as u64;
         let version = self.version;
         self.target = Some(closing.target);
         self.next = None;

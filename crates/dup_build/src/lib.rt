@@ -7,12 +7,13 @@ mod hits;
 mod job;
 mod keyed;
 mod levels;
+mod loose;
 mod node;
-mod open;
 mod paths;
 mod reach;
 mod reads;
 mod stock;
+mod survey;
 mod values;
 
 pub use answers::{Begun, Closing, Finish, Joined, Put};

@@ -1,13 +1,17 @@
 // What is kept of an object that is done.
 ghost use Rattle.std.specs.Prelude.{◌≡◌, IfOk};
+ghost use Rattle.dup_names.specs.Objects.{is_in};
+ghost use Rattle.dup_model.specs.Touched.{without};
+ghost use Rattle.dup_sets.specs.Entries.{at, objs};
 ghost use Rattle.std.specs.List.{flat_map};
 ghost use Rattle.dup_names.specs.Order.{obj_cmp};
 ghost use Rattle.dup_names.specs.Words.{in_order};
-ghost use Rattle.dup_build.specs.Nodes.{held};
+ghost use Rattle.dup_build.specs.Nodes.{children_of, held};
 
 use dup_lists::Listed;
 use dup_names::{Look, NoMemory, Obj, Piece};
 use dup_render::Expanded;
+use dup_sets::{ObjSet, Table};
 use std::alloc::Global;
 use std::sync::Arc;
 
@@ -22,6 +26,23 @@ pub(crate) struct Node {
 #[derive(Drop)]
 pub(crate) struct Shown {
     pub(crate) look: Arc<Look, Global>,
+}
+
+/// What an object embeds, where it has a node; else nothing.
+pub(crate) fn node_children<'a>(nodes: &'a Table<Node>, obj: &Obj) -> &'a [Obj]
+    ensures { result.now ≡ children_of (at nodes.now obj.now) }
+{
+    match nodes.get(obj) {
+        None => &[],
+        Some(node) => node.children.items(),
+    }
+}
+
+/// Whether an object is in a table and isn't dropped from it.
+pub(crate) fn stays<T>(table: &Table<T>, dropped: &ObjSet, obj: &Obj) -> bool
+    ensures { result ≡ is_in (without (is_in dropped.now) (objs table.now)) obj.now }
+{
+    table.has(obj) && !dropped.contains(obj)
 }
 
 fn objs_held(alloc: Global, pieces: &[Piece]) -> Result<Vec<Obj>, NoMemory>

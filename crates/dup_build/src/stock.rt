@@ -20,23 +20,25 @@ ghost use Rattle.dup_model.specs.Looks.{look};
 ghost use Rattle.dup_model.specs.Skeletons.{embeds};
 ghost use Rattle.dup_join.specs.Jobs.{look_of};
 ghost use Rattle.dup_model.specs.Pages.{live, page_looks};
-ghost use Rattle.dup_sets.specs.Entries.{at, objs};
+ghost use Rattle.dup_sets.specs.Entries.{objs};
 ghost use Rattle.dup_build.specs.Targets.{looks_of};
 ghost use Rattle.dup_build.specs.Looked.{look_at, last_look};
-ghost use Rattle.dup_build.specs.Nodes.{IsNode, below, children_of, ChildrenEarlier};
+ghost use Rattle.dup_build.specs.Nodes.{IsNode};
 ghost use Rattle.dup_machine.specs.Closed.{IsClosed};
 ghost use Rattle.dup_machine.specs.Reached.{Reached, opened};
-ghost use Rattle.dup_build.specs.Stocked.{waiting_in, unjoined_in, level_in};
+ghost use Rattle.dup_build.specs.Stocked.{is_met, waiting_in, unjoined_in, level_in};
+ghost use Rattle.dup_walk.specs.OverReads.{HasReads};
 
 use crate::job::Job;
-use crate::node::{Node, Shown};
-use crate::open::Open;
+use crate::loose::unheld;
+use crate::node::{Node, Shown, node_children};
 use crate::reach::reach;
+use crate::survey::Survey;
 use crate::values::first_stale;
+use dup_graph::Graph;
 use dup_join::JoinJob;
 use dup_lists::Listed;
-use dup_names::{Item, Key, Look, NoMemory, Obj, Path};
-use dup_pages::pages;
+use dup_names::{Item, Key, Look, NoMemory, Obj};
 use dup_records::Content;
 use dup_render::{Expanded, Target};
 use dup_sets::{ObjSet, Table};
@@ -52,7 +54,7 @@ pub(crate) struct Stock {
     content: Content,
     nodes: Table<Node>,
     looks: Table<Shown>,
-    progress: Open,
+    progress: Survey,
 }
 
 impl Model for Stock {
@@ -108,23 +110,11 @@ fn outside<T>(alloc: Global, found: &[Obj], table: &Table<T>) -> Result<Vec<Obj>
     Ok(out)
 }
 
-fn objs_shown(alloc: Global, pages: &[(Path, Obj)]) -> Result<Vec<Obj>, NoMemory>
-    ensures { IfOk result (λ made. made.items ≡ map (λ p. p.1) pages.now) }
+// How many of these objects are in a table.
+fn count_in<T>(among: &[Obj], table: &Table<T>) -> usize
+    ensures { result ≡ length (filter (is_in (objs table.now)) among.now) }
 {
-    let mut objs = Vec::with_capacity(alloc, pages.len())?;
-    for page in pages {
-        objs.push(page.1)?;
-    }
-    Ok(objs)
-}
-
-fn node_children<'a>(nodes: &'a Table<Node>, obj: &Obj) -> &'a [Obj]
-    ensures { result.now ≡ children_of (at nodes.now obj.now) }
-{
-    match nodes.get(obj) {
-        None => &[],
-        Some(node) => node.children.items(),
-    }
+    among.iter().filter(|obj| table.has(obj)).count()
 }
 
 fn all_in<T>(found: &[Obj], table: &Table<T>) -> bool
@@ -177,74 +167,9 @@ fn add_looks(
     Ok(())
 }
 
-// Whether an object is in a table and isn't dropped from it.
-fn stays<T>(table: &Table<T>, dropped: &ObjSet, obj: &Obj) -> bool
-    ensures { result ≡ is_in (without (is_in dropped.now) (objs table.now)) obj.now }
-{
-    table.has(obj) && !dropped.contains(obj)
-}
-
-// Those of these objects that aren't in a table once some are dropped from it.
-fn outside_once<T>(
-    alloc: Global,
-    found: &[Obj],
-    table: &Table<T>,
-    dropped: &ObjSet,
-) -> Result<ObjSet, NoMemory>
-    requires { in_order obj_cmp found.now ≡ found.now }
-    ensures { IfOk result (λ made. made
-        ≡ without (is_in (without (is_in dropped.now) (objs table.now))) found.now) }
-{
-    let mut out = Vec::new(alloc);
-    for obj in found {
-        if !stays(table, dropped, obj) {
-            out.push(*obj)?;
-        }
-    }
-    let made = ObjSet::of(alloc, &out)?;
-    Ok(made)
-}
-
-// What a work finds at a content once some nodes and looks are dropped.
-fn survey(
-    alloc: Global,
-    content: &Content,
-    nodes: &Table<Node>,
-    dropped: &ObjSet,
-    looks: &Table<Shown>,
-    stale: &ObjSet,
-) -> Result<Open, NoMemory>
-    requires earlier { EmbedsEarlier content.now }
-    requires children { ChildrenEarlier nodes.now }
-    requires nodes { (o : Obj) → below nodes.now dropped.now o
-        ≡ opened content.now (without (is_in dropped.now) (objs nodes.now)) o }
-    ensures found { IfOk result (λ made. made.found
-        ≡ found content.now (without (is_in dropped.now) (objs nodes.now))) }
-    ensures waiting { IfOk result (λ made. made.waiting
-        ≡ waiting content.now (without (is_in dropped.now) (objs nodes.now))) }
-    ensures unjoined { IfOk result (λ made. made.unjoined
-        ≡ without (is_in (without (is_in stale.now) (objs looks.now)))
-        (found content.now (without (is_in dropped.now) (objs nodes.now)))) }
-{
-    let pages = pages(alloc, content)?;
-    let roots = objs_shown(alloc, &pages)?;
-    let none = ObjSet::new(alloc);
-    let found = reach(alloc, nodes, dropped, &none, &roots)?;
-    found.len();
-    let list = found.list(alloc)?;
-    let waiting = outside_once(alloc, &list, nodes, dropped)?;
-    let unjoined = outside_once(alloc, &list, looks, stale)?;
-    Ok(Open {
-        found,
-        waiting,
-        unjoined,
-    })
-}
-
-// Objects that are found; of these, those that aren't done, and those that have no look.
+// Objects that are found and have no look, and those of them that aren't done.
 #[derive(Drop)]
 struct News {
-    found: Listed<Obj>,
     waiting: Listed<Obj>,
     unjoined: Listed<Obj>,
 }
@@ -259,7 +184,8 @@ impl Stock {
         let nodes = Table::new(alloc);
         let looks = Table::new(alloc);
         let none = ObjSet::new(alloc);
-        let progress = survey(alloc, &content, &nodes, &none, &looks, &none)?;
+        let last = Survey::none(alloc);
+        let progress = Survey::of(alloc, &content, &last, &nodes, &none, &looks, &none)?;
         Ok(Stock {
             content,
             nodes,
@@ -291,7 +217,15 @@ impl Stock {
     {
         site_known(&self.content);
         site_known(content);
-        let progress = survey(alloc, content, &self.nodes, dropped, &self.looks, stale)?;
+        let progress = Survey::of(
+            alloc,
+            content,
+            &self.progress,
+            &self.nodes,
+            dropped,
+            &self.looks,
+            stale,
+        )?;
         let dropped = dropped.list(alloc)?;
         let stale = stale.list(alloc)?;
         let content = content.copy(alloc)?;
@@ -377,11 +311,10 @@ impl Stock {
 
     // What is found once an object with this node is done.
     fn news(&self, alloc: Global, node: &Node) -> Result<News, NoMemory>
-        ensures found { IfOk result (λ news. (g : Obj) → IsTrue (is_in news.found g)
-            ↔ Reached (opened self.now.content self.now.done)
-            (is_in (found self.now.content self.now.done)) node.now.children g) }
-        ensures waiting { IfOk result (λ news. news.waiting ≡ without (is_in self.now.done) news.found) }
-        ensures unjoined { IfOk result (λ news. news.unjoined ≡ without (is_in self.now.looked) news.found) }
+        ensures unjoined { IfOk result (λ news. (g : Obj) → IsTrue (is_in news.unjoined g)
+            ↔ Reached (opened self.now.content self.now.done) (is_met self.now) node.now.children g) }
+        ensures waiting { IfOk result (λ news.
+            news.waiting ≡ without (is_in self.now.done) news.unjoined) }
     {
         site_known(&self.content);
         let none = ObjSet::new(alloc);
@@ -389,14 +322,14 @@ impl Stock {
             alloc,
             &self.nodes,
             &none,
-            &self.progress.found,
+            &self.looks,
+            &none,
+            &self.progress.unjoined,
             node.children.items(),
         )?;
-        let found = fresh.list(alloc)?;
-        let waiting = outside(alloc, &found, &self.nodes)?;
-        let unjoined = outside(alloc, &found, &self.looks)?;
+        let unjoined = fresh.list(alloc)?;
+        let waiting = outside(alloc, &unjoined, &self.nodes)?;
         Ok(News {
-            found: Listed::of(found),
             waiting: Listed::of(waiting),
             unjoined: Listed::of(unjoined),
         })
@@ -407,11 +340,9 @@ impl Stock {
         requires waits { IsTrue (is_in (waiting_in self.old) obj) }
         requires keyed { KeyOk obj.key }
         requires node { IsNode self.old.content obj node }
-        requires found { (g : Obj) → IsTrue (is_in news.now.found g)
-            ↔ Reached (opened self.old.content self.old.done)
-            (is_in (found self.old.content self.old.done)) node.children g }
-        requires waiting { news.now.waiting ≡ without (is_in self.old.done) news.now.found }
-        requires unjoined { news.now.unjoined ≡ without (is_in self.old.looked) news.now.found }
+        requires unjoined { (g : Obj) → IsTrue (is_in news.now.unjoined g)
+            ↔ Reached (opened self.old.content self.old.done) (is_met self.old) node.children g }
+        requires waiting { news.now.waiting ≡ without (is_in self.old.done) news.now.unjoined }
         ensures ok { OnOk result (self.new ≡ record self.old {
           done = in_order obj_cmp (obj
               ∷ self.old.done);
@@ -420,11 +351,9 @@ impl Stock {
     {
         site_known(&self.content);
         self.nodes.add(obj, node)?;
-        let Err(refused) = self.progress.grow(
-            news.found.items(),
-            news.waiting.items(),
-            news.unjoined.items(),
-        )
+        let Err(refused) = self
+            .progress
+            .grow(news.waiting.items(), news.unjoined.items())
         else {
             self.progress.waiting.remove(&obj);
             return Ok(());
@@ -541,11 +470,12 @@ impl Stock {
         Ok(())
     }
 
-    /// Forgets the objects that aren't live, where all that is found has a look, and tells which. It
-    /// goes through all that is kept.
-    pub(crate) fn forget(&mut self, alloc: Global) -> Result<Vec<Obj>, NoMemory>
+    /// Forgets the objects that aren't live, where all that is found has a look, and tells which. The cost is
+    /// that of what may have come loose since the last time; where anything goes, that of the pages too.
+    pub(crate) fn forget(&mut self, alloc: Global, graph: &Graph) -> Result<Vec<Obj>, NoMemory>
         requires calm { waiting_in self.old ≡ [] }
         requires joined { unjoined_in self.old ≡ [] }
+        requires reads { HasReads self.old.content self.old.done graph.now }
         ensures gone { IfOk result (λ gone. (o : Obj) →
             IsTrue (is_in gone.items o) → is_in (found self.old.content self.old.done) o ≡ false) }
         ensures ok { OnOk result (self.new
@@ -555,10 +485,17 @@ impl Stock {
         site_known(&self.content);
         self.nodes.len();
         self.looks.len();
-        let known = self.nodes.list(alloc)?;
-        let gone = self.progress.found.lacking(alloc, &known)?;
+        let gone = unheld(
+            alloc,
+            graph,
+            &self.nodes,
+            self.progress.pages.items(),
+            &self.progress.loose,
+        )?;
+        let gone = gone.list(alloc)?;
         self.nodes.remove_all(&gone);
         self.looks.remove_all(&gone);
+        self.progress.loose = ObjSet::new(alloc);
         Ok(gone)
     }
 
@@ -578,14 +515,13 @@ impl Stock {
         Ok(Arc::try_clone(&shown.look)?)
     }
 
-    /// How many live objects aren't in a set, where none waits.
-    pub(crate) fn kept(&self, alloc: Global, once: &ObjSet) -> Result<usize, NoMemory>
-        requires { waiting_in self.now ≡ [] }
-        ensures { IfOk result (λ kept. kept ≡ length (without (is_in once.now) (live self.now.content))) }
+    /// How many objects that have skeletons aren't among these, which are in object order. The cost is a
+    /// search for each of these.
+    pub(crate) fn kept(&self, once: &[Obj]) -> usize
+        requires { in_order obj_cmp once.now ≡ once.now }
+        ensures { result ≡ length (without (is_in once.now) self.now.done) }
     {
-        let found = self.progress.found.list(alloc)?;
-        let kept = once.lacking(alloc, &found)?;
-        Ok(kept.as_slice().len())
+        self.nodes.len() - count_in(once, &self.nodes)
     }
 
     /// The target of a version: the look of each page in path order, where all that is found has a
@@ -596,9 +532,9 @@ impl Stock {
         ensures looks { IfOk result (λ made. looks_of made ≡ page_looks self.now.content) }
     {
         site_known(&self.content);
-        let pages = pages(alloc, &self.content)?;
+        let pages = self.progress.pages.items();
         let mut out = Vec::with_capacity(alloc, pages.len())?;
-        for page in &pages {
+        for page in pages {
             let look = self.look(&page.1)?;
             out.push((page.0, look))?;
         }

@@ -1,4 +1,4 @@
-use Rattle.std.proofs.Common.{◌≡◌, ap, ◌∙◌}
+use Rattle.std.proofs.Common.{ap, ◌∙◌}
 use Rattle.std.specs.List.{filter}
 use Rattle.dup_names.specs.Objects.{is_in}
 use Rattle.dup_build.specs.Stocked.{level_in}

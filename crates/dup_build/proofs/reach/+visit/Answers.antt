@@ -1,7 +1,7 @@
 use Rattle.std.proofs.Common.{◌≡◌, ◌<◌, sym, ap, ◌∙◌, ◌∷◌, [], take, subst, arith, true}
 use Rattle.std.proofs.lemmas.List.{take_all}
 use Rattle.dup_names.specs.Objects.{is_in}
-use Rattle.dup_build.specs.Nodes.{below}
+use Rattle.dup_build.specs.Nodes.{below, seen}
 use Rattle.dup_machine.specs.Reached.{Walked}
 use Rattle.dup_sets.proofs.Sets.{item_in, taken_push}
 use Rattle.dup_build.proofs.Walking.{walked_then, walked_down, below_within}
@@ -17,9 +17,9 @@ visit-requires t c =
 
 pub loop-child-preserved : goal.loop-child-preserved
 loop-child-preserved t c =
-    subst (λ l. Walked (below c.args.nodes.now c.args.dropped.now) (is_in c.args.seen.now) l c.add.new.self c.visit.new.fresh)
+    subst (λ l. Walked (below c.args.nodes.now c.args.dropped.now) (seen c.args.looks.now c.args.stale.now c.args.others.now) l c.add.new.self c.visit.new.fresh)
     (sym (taken_push c.children-children.result.now c.loop-child.child-index c.child-item.result c.loop-child-test.true c.child-item.is))
-    (walked_then (below c.args.nodes.now c.args.dropped.now) (is_in c.args.seen.now) (take c.loop-child.child-index c.children-children.result.now) (c.child-item.result ∷ [])
+    (walked_then (below c.args.nodes.now c.args.dropped.now) (seen c.args.looks.now c.args.stale.now c.args.others.now) (take c.loop-child.child-index c.children-children.result.now) (c.child-item.result ∷ [])
     c.add.new.self c.loop-child.fresh c.visit.new.fresh c.loop-child.invariant c.in_ok-visit.ensures)
 
 pub returns : goal.returns
@@ -27,7 +27,7 @@ returns t c =
     let down = below c.args.nodes.now c.args.dropped.now in
     let all : take c.loop-child.child-index c.children-children.result.now ≡ down c.args.obj.now =
     take_all c.loop-child.child-index c.children-children.result.now c.loop-child-test.false ∙ c.children-children.ensures in
-    let unseen = sym c.contains.ensures ∙ c.if-contains.false in
-    walked_down down (is_in c.args.seen.now) c.args.obj.now c.args.fresh.now c.loop-child.fresh unseen
-    (subst (λ l. Walked down (is_in c.args.seen.now) (down c.args.obj.now) l c.loop-child.fresh) c.in_ok-add.ensures.ok
-    (subst (λ l. Walked down (is_in c.args.seen.now) l c.add.new.self c.loop-child.fresh) all c.loop-child.invariant))
+    let unseen = sym c.is_seen.ensures ∙ c.if-is_seen.false in
+    walked_down down (seen c.args.looks.now c.args.stale.now c.args.others.now) c.args.obj.now c.args.fresh.now c.loop-child.fresh unseen
+    (subst (λ l. Walked down (seen c.args.looks.now c.args.stale.now c.args.others.now) (down c.args.obj.now) l c.loop-child.fresh) c.in_ok-add.ensures.ok
+    (subst (λ l. Walked down (seen c.args.looks.now c.args.stale.now c.args.others.now) l c.add.new.self c.loop-child.fresh) all c.loop-child.invariant))

@@ -1,7 +1,5 @@
-use Rattle.std.proofs.Common.{◌≡◌, Bool, true, cond, List, [], Some, None, length, sym, ap, subst, ◌∙◌}
+use Rattle.std.proofs.Common.{◌≡◌, Bool, true, cond, [], Some, None, length, sym, ap, subst, ◌∙◌}
 use Rattle.std.specs.List.{All}
-use Rattle.std.specs.List.Sorted.{IsStrictlySortedBy}
-use Rattle.dup_names.specs.Words.{Path}
 use Rattle.dup_model.specs.Pages.{live, page_looks}
 use Rattle.dup_names.specs.Order.{text_cmp}
 use Rattle.std.specs.FinMap.Entries.{is_sorted}
@@ -12,11 +10,11 @@ use Rattle.dup_machine.specs.Builds.{Build, finished_in}
 use Rattle.dup_model.specs.Found.{waiting}
 use Rattle.dup_machine.specs.Works.{unjoined}
 use Rattle.dup_build.specs.Build.{IsBuild, work_in, works_in}
-use Rattle.dup_build.specs.Paths.{AreTouched, IsCurrent, SameElsewhere, looks_in}
-use Rattle.dup_build.specs.Targets.{looks_by_path, looks_of, pages_in}
-use Rattle.dup_build.proofs.Showing.{current_elsewhere, target_current}
+use Rattle.dup_build.specs.Paths.{IsCurrent, looks_in}
+use Rattle.dup_build.specs.Targets.{looks_of}
+use Rattle.dup_build.proofs.Showing.{target_current}
 use Rattle.dup_build.proofs.Rising.{page_looks_rise}
-use Rattle.dup_build.specs.Built.{Built, closed, once_by, waiting_by, unjoined_by, finished}
+use Rattle.dup_build.specs.Built.{Built, closed, waiting_by, unjoined_by, finished}
 use Rattle.dup_build.proofs.Builds.{open_from, finished_open}
 use Rattle.std.proofs.Common.{inl, inr}
 use Rattle.std.proofs.lemmas.Bool.{true≢false, cases_Bool}
@@ -37,6 +35,9 @@ forget-requires-clause-calm c =
 pub invariant_of-self : goal.invariant_of-self
 invariant_of-self c = subst (λ (s : Stocked). IsBuild (record c.self.inside { stock = s })) (sym c.in_err-gone.ensures.err) c.self.invariant
 
+pub forget-requires-clause-reads : goal.forget-requires-clause-reads
+forget-requires-clause-reads c = c.self.invariant.reads
+
 pub forget-requires-clause-joined : goal.forget-requires-clause-joined
 forget-requires-clause-joined c =
     let open_is : c.self.inside.is_open ≡ true = open_from c.self.inside.is_open (work_in c.self.inside) c.args.self.now.works.work (ap (λ (b : Built). b.works.work) c.self.view_is) c.requires.busy in
@@ -51,8 +52,9 @@ returns-clause-told c =
     let joined : unjoined c.args.self.now.works.content (work_in c.self.inside) ≡ [] = ap (unjoined_by c.args.self.now.works.content) (sym work_is) ∙ c.requires.joined in
     let whole : finished c.args.self.now.works ≡ finished_in (work_in c.self.inside) [] [] c.args.self.now.works =
     finished_open c.args.self.now.works (work_in c.self.inside) work_is ∙ (λ i. finished_in (work_in c.self.inside) (calm i) (joined i) c.args.self.now.works) in
-    let kept : c.in_ok-kept.kept ≡ length (without (is_in c.self.inside.once) (live c.args.self.now.works.content)) =
-    c.in_ok-kept.ensures ∙ ap (λ (b : Built). length (without (is_in c.self.inside.once) (live b.works.content))) c.self.view_is in
+    let kept : c.kept-kept.result ≡ length (without (is_in c.self.inside.once) (live c.args.self.now.works.content)) =
+    c.kept-kept.ensures ∙ (λ i. length (without (is_in ((c.deref-2.ensures.value ∙ c.in_ok-once.ensures) i)) (c.in_ok-gone.ensures.ok i).done))
+    ∙ ap (λ (b : Built). length (without (is_in c.self.inside.once) (live b.works.content))) c.self.view_is in
     (λ i. Ended.Report (record { version = c.self.inside.version; expanded = c.self.inside.expanded; joined = c.self.inside.joined; kept = kept i }))
     ∙ sym (ap (λ (x : Ended × Build). x.0) whole)
 

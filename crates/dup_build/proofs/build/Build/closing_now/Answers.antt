@@ -1,31 +1,20 @@
-use Rattle.std.proofs.Common.{◌≡◌, Bool, true, cond, List, [], Some, None, length, sym, ap, subst, ◌∙◌}
+use Rattle.std.proofs.Common.{◌≡◌, Bool, true, cond, List, [], Some, None, sym, ap, subst, ◌∙◌}
 use Rattle.std.specs.List.{All}
 use Rattle.std.specs.List.Sorted.{IsStrictlySortedBy}
 use Rattle.dup_names.specs.Words.{Path}
-use Rattle.dup_model.specs.Pages.{live, page_looks}
+use Rattle.dup_model.specs.Pages.{page_looks}
 use Rattle.dup_names.specs.Order.{text_cmp}
 use Rattle.std.specs.FinMap.Entries.{is_sorted}
 use Rattle.dup_names.specs.Objects.{is_in}
 use Rattle.dup_model.specs.Touched.{without}
-use Rattle.dup_machine.specs.World.{Ended}
-use Rattle.dup_machine.specs.Builds.{Build, finished_in}
-use Rattle.dup_model.specs.Found.{waiting}
-use Rattle.dup_machine.specs.Works.{unjoined}
-use Rattle.dup_build.specs.Build.{IsBuild, work_in}
+use Rattle.dup_build.specs.Build.{work_in}
 use Rattle.dup_build.specs.Paths.{AreTouched, IsCurrent, SameElsewhere, looks_in}
 use Rattle.dup_build.specs.Targets.{looks_by_path, looks_of, pages_in}
-use Rattle.dup_build.proofs.Showing.{current_elsewhere, target_current}
+use Rattle.dup_build.proofs.Showing.{current_elsewhere}
 use Rattle.dup_build.proofs.Rising.{page_looks_rise}
-use Rattle.dup_build.specs.Built.{Built, once_by, waiting_by, unjoined_by, finished}
-use Rattle.dup_build.proofs.Builds.{open_from, finished_open}
-use Rattle.std.proofs.Common.{inl, inr}
-use Rattle.std.proofs.lemmas.Bool.{true≢false, cases_Bool}
-use Rattle.dup_names.specs.declared.object.Obj.{Obj}
+use Rattle.dup_build.specs.Built.{Built, once_by, unjoined_by}
+use Rattle.dup_build.proofs.Builds.{open_from}
 use Rattle.dup_model.specs.Found.{found}
-use Rattle.dup_model.proofs.Finds.{found_is_live, done_unless_waiting}
-use Rattle.dup_walk.specs.OverReads.{HasReads}
-use Rattle.dup_build.specs.Stocked.{Stocked}
-use Rattle.dup_build.proofs.Graphs.{reads_left}
 use Rattle.dup_build.proofs.build.Build.closing_now.Goals as goal
 
 pub touched_paths-requires-clause-old : goal.touched_paths-requires-clause-old

@@ -23,10 +23,10 @@ pub invariant_of-self-2 : goal.invariant_of-self-2
 invariant_of-self-2 c =
     let calm : waiting c.self.inside.content (objs c.self.inside.nodes) ≡ [] = ap waiting_in c.self.view_is ∙ c.requires.calm in
     joined_stock c.self.inside.content c.self.inside.nodes c.self.inside.looks c.self.inside.progress c.self.invariant calm c.add_looks.new.looks
-    (record { found = c.self.inside.progress.found; waiting = c.self.inside.progress.waiting; unjoined = c.remove_all.new.self }) c.args.level.now
+    (record { pages = c.self.inside.progress.pages; waiting = c.self.inside.progress.waiting; unjoined = c.remove_all.new.self; loose = c.self.inside.progress.loose }) c.args.level.now
     (c.requires.level ∙ ap level_in (sym c.self.view_is)) c.in_ok-add_looks.ensures.objs
     (λ q. c.in_ok-add_looks.ensures.looks q ∙ ap (last_look q (look_at c.self.inside.looks q)) (c.requires.looks ∙ ap (λ (s : Stocked). map (look s.content) c.args.level.now) (sym c.self.view_is)))
-    refl refl c.remove_all.ensures
+    refl refl refl c.remove_all.ensures
 
 pub returns-clause-ok : goal.returns-clause-ok
 returns-clause-ok c =

@@ -1,15 +1,16 @@
-use Rattle.std.proofs.Common.{◌≡◌, length, ap, ◌∙◌}
-use Rattle.dup_model.specs.Pages.{live}
-use Rattle.dup_names.specs.Objects.{is_in}
+use Rattle.std.proofs.Common.{◌≡◌, ◌-◌, arith, length, ap, ◌∙◌}
 use Rattle.dup_model.specs.Touched.{without}
-use Rattle.dup_model.specs.Found.{found}
-use Rattle.dup_model.proofs.Finds.{done_unless_waiting, found_is_live}
+use Rattle.dup_names.specs.Objects.{is_in}
+use Rattle.dup_sets.specs.Entries.{objs}
 use Rattle.dup_build.specs.Stocked.{Stocked}
+use Rattle.dup_build.proofs.Forgetting.{counted_apart}
 use Rattle.dup_build.proofs.stock.Stock.kept.Goals as goal
+
+pub overflow_sub-result : goal.overflow_sub-result
+overflow_sub-result c = omega (arith, c.count_in.ensures, c.len.ensures.value, counted_apart (objs c.self.inside.nodes) c.args.once.now c.len.ensures.rising c.requires)
 
 pub returns : goal.returns
 returns c =
-    let all : c.deref.result.now ≡ live c.args.self.now.content =
-    c.deref.ensures.value ∙ c.in_ok-found.ensures ∙ c.self.invariant.finds ∙ ap (λ (s : Stocked). found s.content s.done) c.self.view_is
-    ∙ found_is_live c.args.self.now.content c.args.self.now.done (done_unless_waiting c.args.self.now.content c.args.self.now.done c.requires) in
-    ap length (c.as_slice.ensures.value ∙ c.in_ok-kept.ensures ∙ ap (without (is_in c.args.once.now)) all)
+    let apart : c.len.result - c.count_in.result ≡ length (without (is_in c.args.once.now) (objs c.self.inside.nodes)) =
+    omega (arith, c.count_in.ensures, c.len.ensures.value, counted_apart (objs c.self.inside.nodes) c.args.once.now c.len.ensures.rising c.requires) in
+    apart ∙ ap (λ (s : Stocked). length (without (is_in c.args.once.now) s.done)) c.self.view_is

@@ -6,17 +6,23 @@ use Rattle.dup_sets.specs.Entries.{at, objs}
 use Rattle.dup_build.specs.Stock.{IsStock}
 use Rattle.dup_build.specs.Stocked.{Stocked}
 use Rattle.dup_build.proofs.Stocking.{children_earlier}
-use Rattle.dup_build.proofs.Moving.{Left, left_from, below_moved, moved_stock, done_moved, looked_moved}
+use Rattle.dup_build.proofs.Moving.{Left, closed_moved, left_from, below_moved, moved_stock, done_moved, looked_moved}
 use Rattle.dup_build.proofs.stock.Stock.move_to.Goals as goal
 
-pub survey-requires-clause-children : goal.survey-requires-clause-children
-survey-requires-clause-children c = children_earlier c.self.inside.content c.self.inside.nodes c.self.invariant.nodes_are c.site_known.ensures.earlier
+pub of-requires-clause-children : goal.of-requires-clause-children
+of-requires-clause-children c = children_earlier c.self.inside.content c.self.inside.nodes c.self.invariant.nodes_are c.site_known.ensures.earlier
 
-pub survey-requires-clause-nodes : goal.survey-requires-clause-nodes
-survey-requires-clause-nodes c =
+pub of-requires-clause-nodes : goal.of-requires-clause-nodes
+of-requires-clause-nodes c =
     let e : Left c.self.inside.content c.args.content.now c.self.inside.nodes c.self.inside.looks c.args.dropped.now c.args.stale.now =
     left_from _ _ _ _ _ _ _ c.self.view_is c.requires.frame c.requires.dropped c.requires.stale in
     below_moved c.self.inside.content c.args.content.now e.frames c.self.inside.nodes c.self.invariant.nodes_are c.args.dropped.now e.drops
+
+pub of-requires-clause-closed : goal.of-requires-clause-closed
+of-requires-clause-closed c =
+    let e : Left c.self.inside.content c.args.content.now c.self.inside.nodes c.self.inside.looks c.args.dropped.now c.args.stale.now =
+    left_from _ _ _ _ _ _ _ c.self.view_is c.requires.frame c.requires.dropped c.requires.stale in
+    closed_moved c.self.inside.content c.args.content.now c.self.inside.nodes c.self.inside.looks c.args.dropped.now c.args.stale.now e.drops e.stales e.frames c.site_known.ensures.earlier c.self.invariant.closed
 
 pub invariant_of-self : goal.invariant_of-self
 invariant_of-self c =
@@ -31,7 +37,7 @@ invariant_of-self c =
     (c.remove_all.ensures.objs ∙ ap (λ l. without (is_in l) (objs c.self.inside.nodes)) dropped)
     (λ q. c.remove_all-2.ensures.at q ∙ ap (λ l. cond (is_in l q) None (at c.self.inside.looks q)) stale)
     (c.remove_all-2.ensures.objs ∙ ap (λ l. without (is_in l) (objs c.self.inside.looks)) stale)
-    c.in_ok-progress.ensures.found c.in_ok-progress.ensures.waiting c.in_ok-progress.ensures.unjoined)
+    c.in_ok-progress.ensures.pages c.in_ok-progress.ensures.loose c.in_ok-progress.ensures.waiting c.in_ok-progress.ensures.unjoined)
 
 pub returns-clause-ok : goal.returns-clause-ok
 returns-clause-ok c =

@@ -3,7 +3,7 @@ use Rattle.dup_names.specs.Order.{obj_cmp}
 use Rattle.dup_names.specs.Words.{in_order}
 use Rattle.dup_names.specs.Objects.{is_in, same_obj}
 use Rattle.dup_model.specs.Touched.{without}
-use Rattle.dup_build.specs.declared.open.Open.{Open}
+use Rattle.dup_build.specs.declared.survey.Survey.{Survey}
 use Rattle.dup_sets.specs.Entries.{objs}
 use Rattle.dup_build.specs.Stock.{IsStock}
 use Rattle.dup_build.specs.Stocked.{Stocked}
@@ -13,44 +13,39 @@ use Rattle.dup_build.proofs.stock.Stock.put_in.Goals as goal
 
 pub grow-requires-clause-waiting : goal.grow-requires-clause-waiting
 grow-requires-clause-waiting c =
-    let e : Given c.self.inside.content c.self.inside.nodes c.self.inside.looks c.self.inside.progress c.args.obj c.args.node c.args.news.now.found =
-    given_from _ _ _ _ _ _ _ _ c.self.view_is c.self.invariant c.site_known.ensures.earlier c.requires.node c.requires.waits c.requires.found in
-    let parts : c.items-2.result.now ≡ without (is_in (objs c.self.inside.nodes)) c.args.news.now.found =
-    c.items-2.ensures ∙ c.requires.waiting ∙ ap (λ (s : Stocked). without (is_in s.done) c.args.news.now.found) (sym c.self.view_is) in
-    λ x h. waiting_apart c.self.inside.content c.self.inside.nodes c.self.inside.looks c.self.inside.progress e.stock e.earlier c.args.obj c.args.node e.node e.waits c.args.news.now.found e.each x
+    let e : Given c.self.inside.content c.self.inside.nodes c.self.inside.looks c.self.inside.progress c.args.obj c.args.node c.args.news.now.unjoined =
+    given_from _ _ _ _ _ _ _ _ c.self.view_is c.self.invariant c.site_known.ensures.earlier c.requires.node c.requires.waits c.requires.unjoined in
+    let parts : c.items.result.now ≡ without (is_in (objs c.self.inside.nodes)) c.args.news.now.unjoined =
+    c.items.ensures ∙ c.requires.waiting ∙ ap (λ (s : Stocked). without (is_in s.done) c.args.news.now.unjoined) (sym c.self.view_is) in
+    λ x h. waiting_apart c.self.inside.content c.self.inside.nodes c.self.inside.looks c.self.inside.progress e.stock e.earlier c.args.obj c.args.node e.node e.waits c.args.news.now.unjoined e.each x
     (ap (λ l. is_in l x) (sym parts) ∙ h)
 
 pub grow-requires-clause-unjoined : goal.grow-requires-clause-unjoined
 grow-requires-clause-unjoined c =
-    let e : Given c.self.inside.content c.self.inside.nodes c.self.inside.looks c.self.inside.progress c.args.obj c.args.node c.args.news.now.found =
-    given_from _ _ _ _ _ _ _ _ c.self.view_is c.self.invariant c.site_known.ensures.earlier c.requires.node c.requires.waits c.requires.found in
-    let parts : c.items-3.result.now ≡ without (is_in (objs c.self.inside.looks)) c.args.news.now.found =
-    c.items-3.ensures ∙ c.requires.unjoined ∙ ap (λ (s : Stocked). without (is_in s.looked) c.args.news.now.found) (sym c.self.view_is) in
-    λ x h. unjoined_apart c.self.inside.content c.self.inside.nodes c.self.inside.looks c.self.inside.progress e.stock e.earlier c.args.obj c.args.node e.node e.waits c.args.news.now.found e.each x
-    (ap (λ l. is_in l x) (sym parts) ∙ h)
+    let e : Given c.self.inside.content c.self.inside.nodes c.self.inside.looks c.self.inside.progress c.args.obj c.args.node c.args.news.now.unjoined =
+    given_from _ _ _ _ _ _ _ _ c.self.view_is c.self.invariant c.site_known.ensures.earlier c.requires.node c.requires.waits c.requires.unjoined in
+    λ x h. unjoined_apart c.self.inside.content c.self.inside.nodes c.self.inside.looks c.self.inside.progress e.stock e.earlier c.args.obj c.args.node e.node e.waits c.args.news.now.unjoined e.each x
+    (ap (λ l. is_in l x) (sym c.items-2.ensures) ∙ h)
 
 pub invariant_of-self-in_default : goal.invariant_of-self-in_default
 invariant_of-self-in_default c =
-    let e : Given c.self.inside.content c.self.inside.nodes c.self.inside.looks c.self.inside.progress c.args.obj c.args.node c.args.news.now.found =
-    given_from _ _ _ _ _ _ _ _ c.self.view_is c.self.invariant c.site_known.ensures.earlier c.requires.node c.requires.waits c.requires.found in
-    let waiting : c.items-2.result.now ≡ without (is_in (objs c.self.inside.nodes)) c.args.news.now.found =
-    c.items-2.ensures ∙ c.requires.waiting ∙ ap (λ (s : Stocked). without (is_in s.done) c.args.news.now.found) (sym c.self.view_is) in
-    let unjoined : c.items-3.result.now ≡ without (is_in (objs c.self.inside.looks)) c.args.news.now.found =
-    c.items-3.ensures ∙ c.requires.unjoined ∙ ap (λ (s : Stocked). without (is_in s.looked) c.args.news.now.found) (sym c.self.view_is) in
-    kept c.self.inside.content c.self.inside.nodes c.self.inside.looks c.self.inside.progress e.stock e.earlier c.args.obj c.args.node e.node e.waits c.args.news.now.found e.each
-    c.requires.keyed c.add.new.self (record { found = c.grow.new.self.found; waiting = c.remove.new.self; unjoined = c.grow.new.self.unjoined })
-    c.in_ok-add.ensures.at c.in_ok-add.ensures.objs
-    (c.in_default.ensures.found ∙ ap (λ l. in_order obj_cmp (l ++ c.self.inside.progress.found)) c.items.ensures)
+    let e : Given c.self.inside.content c.self.inside.nodes c.self.inside.looks c.self.inside.progress c.args.obj c.args.node c.args.news.now.unjoined =
+    given_from _ _ _ _ _ _ _ _ c.self.view_is c.self.invariant c.site_known.ensures.earlier c.requires.node c.requires.waits c.requires.unjoined in
+    let waiting : c.items.result.now ≡ without (is_in (objs c.self.inside.nodes)) c.args.news.now.unjoined =
+    c.items.ensures ∙ c.requires.waiting ∙ ap (λ (s : Stocked). without (is_in s.done) c.args.news.now.unjoined) (sym c.self.view_is) in
+    kept c.self.inside.content c.self.inside.nodes c.self.inside.looks c.self.inside.progress e.stock e.earlier c.args.obj c.args.node e.node e.waits c.args.news.now.unjoined e.each
+    c.requires.keyed c.add.new.self (record { pages = c.grow.new.self.pages; waiting = c.remove.new.self; unjoined = c.grow.new.self.unjoined; loose = c.grow.new.self.loose })
+    c.in_ok-add.ensures.at c.in_ok-add.ensures.objs c.in_default.ensures.pages c.in_default.ensures.loose
     (c.remove.ensures ∙ ap (without (same_obj c.args.obj)) (c.in_default.ensures.waiting ∙ ap (λ l. in_order obj_cmp (l ++ c.self.inside.progress.waiting)) waiting))
-    (c.in_default.ensures.unjoined ∙ ap (λ l. in_order obj_cmp (l ++ c.self.inside.progress.unjoined)) unjoined)
+    (c.in_default.ensures.unjoined ∙ ap (λ l. in_order obj_cmp (l ++ c.self.inside.progress.unjoined)) c.items-2.ensures)
 
 pub invariant_of-self-2 : goal.invariant_of-self-2
 invariant_of-self-2 c =
-    let e : Given c.self.inside.content c.self.inside.nodes c.self.inside.looks c.self.inside.progress c.args.obj c.args.node c.args.news.now.found =
-    given_from _ _ _ _ _ _ _ _ c.self.view_is c.self.invariant c.site_known.ensures.earlier c.requires.node c.requires.waits c.requires.found in
+    let e : Given c.self.inside.content c.self.inside.nodes c.self.inside.looks c.self.inside.progress c.args.obj c.args.node c.args.news.now.unjoined =
+    given_from _ _ _ _ _ _ _ _ c.self.view_is c.self.invariant c.site_known.ensures.earlier c.requires.node c.requires.waits c.requires.unjoined in
     let out : is_in (objs c.self.inside.nodes) c.args.obj ≡ false =
-    isnt_done c.self.inside.content c.self.inside.nodes c.self.inside.looks c.self.inside.progress e.stock e.earlier c.args.obj c.args.node e.node e.waits c.args.news.now.found e.each in
-    subst (λ (o : Open). IsStock c.self.inside.content c.remove-2.new.self c.self.inside.looks o) (sym c.in-Err.ensures.err)
+    isnt_done c.self.inside.content c.self.inside.nodes c.self.inside.looks c.self.inside.progress e.stock e.earlier c.args.obj c.args.node e.node e.waits c.args.news.now.unjoined e.each in
+    subst (λ (o : Survey). IsStock c.self.inside.content c.remove-2.new.self c.self.inside.looks o) (sym c.in-Err.ensures.err)
     (same_stock c.self.inside.content c.self.inside.nodes c.remove-2.new.self c.self.inside.looks c.self.inside.progress
     (at_back c.self.inside.nodes c.add.new.self c.remove-2.new.self c.args.obj c.args.node out c.in_ok-add.ensures.at c.remove-2.ensures.at)
     (c.remove-2.ensures.objs ∙ ap (without (same_obj c.args.obj)) c.in_ok-add.ensures.objs ∙ put_back c.args.obj (objs c.self.inside.nodes) c.add.ensures.rising out)
@@ -58,10 +53,10 @@ invariant_of-self-2 c =
 
 pub returns-clause-err : goal.returns-clause-err
 returns-clause-err c =
-    let e : Given c.self.inside.content c.self.inside.nodes c.self.inside.looks c.self.inside.progress c.args.obj c.args.node c.args.news.now.found =
-    given_from _ _ _ _ _ _ _ _ c.self.view_is c.self.invariant c.site_known.ensures.earlier c.requires.node c.requires.waits c.requires.found in
+    let e : Given c.self.inside.content c.self.inside.nodes c.self.inside.looks c.self.inside.progress c.args.obj c.args.node c.args.news.now.unjoined =
+    given_from _ _ _ _ _ _ _ _ c.self.view_is c.self.invariant c.site_known.ensures.earlier c.requires.node c.requires.waits c.requires.unjoined in
     let out : is_in (objs c.self.inside.nodes) c.args.obj ≡ false =
-    isnt_done c.self.inside.content c.self.inside.nodes c.self.inside.looks c.self.inside.progress e.stock e.earlier c.args.obj c.args.node e.node e.waits c.args.news.now.found e.each in
+    isnt_done c.self.inside.content c.self.inside.nodes c.self.inside.looks c.self.inside.progress e.stock e.earlier c.args.obj c.args.node e.node e.waits c.args.news.now.unjoined e.each in
     let back : objs c.remove-2.new.self ≡ objs c.self.inside.nodes =
     c.remove-2.ensures.objs ∙ ap (without (same_obj c.args.obj)) c.in_ok-add.ensures.objs ∙ put_back c.args.obj (objs c.self.inside.nodes) c.add.ensures.rising out in
     (λ i. record { content = c.self.inside.content; done = back i; looked = objs c.self.inside.looks }) ∙ c.self.view_is

@@ -2,7 +2,7 @@ use Rattle.std.proofs.Common.{◌≡◌, true, false, not, ◌&&◌, sym, ap, �
 use Rattle.dup_names.specs.Objects.{is_in}
 use Rattle.dup_sets.specs.Entries.{objs}
 use Rattle.dup_machine.proofs.InOrder.{in_without}
-use Rattle.dup_build.proofs.stock.stays.Goals as goal
+use Rattle.dup_build.proofs.node.stays.Goals as goal
 
 pub returns-then-has : goal.returns-then-has
 returns-then-has g c =

@@ -6,7 +6,7 @@ use Rattle.dup_names.specs.Objects.{is_in}
 use Rattle.dup_model.specs.Touched.{without}
 use Rattle.dup_sets.specs.Entries.{objs}
 use Rattle.dup_machine.proofs.InOrder.{ordered_filter}
-use Rattle.dup_build.proofs.stock.outside_once.Goals as goal
+use Rattle.dup_build.proofs.survey.outside_once.Goals as goal
 
 pub returns : goal.returns
 returns g c =
