@@ -1,5 +1,5 @@
 -- The steps of a build with an open work.
-use Rattle.std.proofs.Common.{◌≡◌, Bool, true, false, cond, List, [], ◌∷◌, ◌<◌, arith, Option, Some, None, length, refl, sym, ap, ◌∙◌}
+use Rattle.std.proofs.Common.{◌≡◌, ℕ, Bool, true, false, cond, List, [], ◌∷◌, ◌<◌, arith, Option, Some, None, length, refl, sym, ap, ◌∙◌}
 use Rattle.std.specs.Prelude.{IsSome}
 use Rattle.std.specs.Option.{option_map}
 use Rattle.std.proofs.lemmas.Option.{none-some}
@@ -14,7 +14,9 @@ use Rattle.dup_machine.specs.World.Told.{Kept, Unasked}
 use Rattle.dup_model.specs.Found.{waiting}
 use Rattle.dup_machine.specs.Works.{level, unjoined, next_of, with_done, with_joined}
 use Rattle.dup_model.specs.Expansions.{stale}
-use Rattle.dup_build.specs.Built.{handed, put, waits_by, waiting_by, finished, joins}
+use Rattle.dup_model.specs.Content.{Content}
+use Rattle.dup_model.specs.Touched.{touched, without}
+use Rattle.dup_build.specs.Built.{done_by, done_in, handed, next_work_by, put, waits_by, waiting_by, finished, joins}
 
 module _ (b : Build) (w : Work) (open_is : b.work ≡ Some w) where
   pub handed_next : (o : Option Obj) → next_of w.last_handed (waiting b.content w.done) ≡ o → handed b ≡ handed_by w o b
@@ -74,3 +76,11 @@ pub put_kept : (b : Build) (o : Obj) (notes : List (Item × Value)) (work : Opti
 put_kept b o notes None is waits agrees = absurd (true≢false (sym waits))
 put_kept b o notes (Some w) is waits agrees =
     ap (λ x. (put_in o notes x b).0) is ∙ ap (λ x. (cond x (kept_by o w (stale b.content notes) b) (Unasked o, b)).0) waits ∙ ap (λ x. (kept_by o w x b).0) agrees
+
+-- what is done in the work that is opened where none is open
+pub opened_done : (v : ℕ) (c : Content) (b : Build) → b.work ≡ None → without (touched b.content c) (done_in b) ≡ (next_work_by v b.content c b.work b.target).done
+opened_done v c b idle = ap (λ (w : Option Work). without (touched b.content c) (done_by b.content b.target w)) idle ∙ by_target b.target ∙ ap (λ (w : Option Work). (next_work_by v b.content c w b.target).done) (sym idle)
+  where
+    by_target : (t : Option ℕ) → without (touched b.content c) (done_by b.content t None) ≡ (next_work_by v b.content c None t).done
+    by_target None = refl
+    by_target (Some t) = refl

@@ -75,7 +75,7 @@ module _ (c : Content) (earlier : EmbedsEarlier c) where
 
   module _ (nodes : List (Obj × Node)) (looks : List (Obj × Shown)) (o : Survey) (k : IsStock c nodes looks o)
       (calm : waiting c (objs nodes) ≡ []) (joined : without (is_in (objs looks)) (found c (objs nodes)) ≡ [])
-      (gone : List Obj) (are_gone : AreGone (shown_by o.pages) nodes gone) (holds : HoldsBut (shown_by o.pages) nodes gone []) where
+      (gone : List Obj) (are_gone : AreGone (shown_by o.pages.value) nodes gone) (holds : HoldsBut (shown_by o.pages.value) nodes gone []) where
     is_live : found c (objs nodes) ≡ live c
     is_live = found_is_live c (objs nodes) (done_unless_waiting c (objs nodes) calm)
 
@@ -92,21 +92,21 @@ module _ (c : Content) (earlier : EmbedsEarlier c) where
     found_stays : {x : Obj} → Found c (objs nodes) x → is_in gone x ≡ false
     found_stays (of_page {o = x} h) = elim (cases_Bool (is_in gone x)) [
       | inr stays ↦ stays
-      | inl out ↦ absurd (true≢false (sym (ap (λ ps. is_in (shown_by ps) x) k.pages ∙ h) ∙ (or_none (is_in (shown_by o.pages) x) (is_embedded nodes gone x) (are_gone.free x out)).0))
+      | inl out ↦ absurd (true≢false (sym (ap (λ ps. is_in (shown_by ps) x) k.pages ∙ h) ∙ (or_none (is_in (shown_by o.pages.value) x) (is_embedded nodes gone x) (are_gone.free x out)).0))
     ]
     found_stays (embedded {f} way is_done x h) = elim (cases_Bool (is_in gone x)) [
       | inr stays ↦ stays
-      | inl out ↦ absurd (true≢false (sym (embedded_by nodes gone f x is_done (found_stays way) (kids f x is_done ∙ h)) ∙ (or_none (is_in (shown_by o.pages) x) (is_embedded nodes gone x) (are_gone.free x out)).1))
+      | inl out ↦ absurd (true≢false (sym (embedded_by nodes gone f x is_done (found_stays way) (kids f x is_done ∙ h)) ∙ (or_none (is_in (shown_by o.pages.value) x) (is_embedded nodes gone x) (are_gone.free x out)).1))
     ]
 
     -- what isn't gone is found: a page's object, or embedded by another such object, of a later template
     stays_found : (n : ℕ) (x : Obj) → top (objs nodes) ≤ x.template + n → is_in (objs nodes) x ≡ true → is_in gone x ≡ false → Found c (objs nodes) x
     stays_found zero x far h stays = absurd (omega (arith, far, below_top (objs nodes) x h))
-    stays_found (suc n) x far h stays = by_held (λ p k is out. stays_found n p k is out) (is_held (shown_by o.pages) nodes gone x) refl
+    stays_found (suc n) x far h stays = by_held (λ p k is out. stays_found n p k is out) (is_held (shown_by o.pages.value) nodes gone x) refl
       where
-        by_held : ((p : Obj) → top (objs nodes) ≤ p.template + n → is_in (objs nodes) p ≡ true → is_in gone p ≡ false → Found c (objs nodes) p) → (b : Bool) → is_held (shown_by o.pages) nodes gone x ≡ b → Found c (objs nodes) x
+        by_held : ((p : Obj) → top (objs nodes) ≤ p.template + n → is_in (objs nodes) p ≡ true → is_in gone p ≡ false → Found c (objs nodes) p) → (b : Bool) → is_held (shown_by o.pages.value) nodes gone x ≡ b → Found c (objs nodes) x
         by_held before false free = absurd (true≢false (sym (holds x (without_from (is_in gone) (objs nodes) x h stays) free)))
-        by_held before true held = elim (or_cases (is_in (shown_by o.pages) x) (is_embedded nodes gone x) held) [
+        by_held before true held = elim (or_cases (is_in (shown_by o.pages.value) x) (is_embedded nodes gone x) held) [
           | inl page ↦ of_page (ap (λ ps. is_in (shown_by ps) x) (sym k.pages) ∙ page)
           | inr in_one ↦
               let e : (p : Obj) × (is_in (objs nodes) p ≡ true) × (is_in gone p ≡ false) × (is_in (children_of (at nodes p)) x ≡ true) = embedder nodes gone x in_one in
@@ -155,24 +155,24 @@ module _ (c : Content) (earlier : EmbedsEarlier c) where
 
     pub forgotten : (fewer : List (Obj × Node)) (fewer_looks : List (Obj × Shown)) (o' : Survey) → ((q : Obj) → at fewer q ≡ cond (is_in gone q) None (at nodes q)) → objs fewer ≡ without (is_in gone) (objs nodes) → objs fewer ≡ live c →
         ((q : Obj) → at fewer_looks q ≡ cond (is_in gone q) None (at looks q)) → objs fewer_looks ≡ live c →
-        o'.pages ≡ o.pages → o'.waiting ≡ o.waiting → o'.unjoined ≡ o.unjoined → o'.loose ≡ [] → IsStock c fewer fewer_looks o'
+        o'.pages.value ≡ o.pages.value → o'.waiting ≡ o.waiting → o'.unjoined ≡ o.unjoined → o'.loose ≡ [] → IsStock c fewer fewer_looks o'
     forgotten fewer fewer_looks o' nodes_at fewer_objs nodes_objs looks_at looks_objs same_pages same_waiting same_unjoined none_loose = record {
       nodes_are = λ q n is. k.nodes_are q n (still (is_in gone q) (at nodes q) n (sym (nodes_at q) ∙ is)).1;
       looks_are = λ q s is. k.looks_are q s (still (is_in gone q) (at looks q) s (sym (looks_at q) ∙ is)).1;
       closed = subst (λ l. IsClosed c l (objs fewer_looks)) (sym nodes_objs) (subst (IsClosed c (live c)) (sym looks_objs) (closed_live c earlier));
       pages = same_pages ∙ k.pages;
-      held = subst (HoldsBut (shown_by o'.pages) fewer []) (sym none_loose) (subst (λ ps. HoldsBut (shown_by ps) fewer [] []) (sym same_pages) held_left);
+      held = subst (HoldsBut (shown_by o'.pages.value) fewer []) (sym none_loose) (subst (λ ps. HoldsBut (shown_by ps) fewer [] []) (sym same_pages) held_left);
       waits = same_waiting ∙ k.waits ∙ calm ∙ sym none_waits ∙ ap (waiting c) (sym nodes_objs);
       unjoined = same_unjoined ∙ k.unjoined ∙ joined ∙ sym (ap (without (is_in (live c))) all_live ∙ without_all (is_in (live c)) (live c) (λ x h. h)) ∙ (λ i. without (is_in (sym looks_objs i)) (found c (sym nodes_objs i)));
       keyed = λ q h. k.keyed q (live_done q (ap (λ l. is_in l q) (sym nodes_objs) ∙ h));
       keys = k.keys;
     }
       where
-        held_left : HoldsBut (shown_by o.pages) fewer [] []
+        held_left : HoldsBut (shown_by o.pages.value) fewer [] []
         held_left x inside free =
-            let none : (is_in (shown_by o.pages) x ≡ false) × (is_embedded fewer [] x ≡ false) = or_none (is_in (shown_by o.pages) x) (is_embedded fewer [] x) free in
+            let none : (is_in (shown_by o.pages.value) x ≡ false) × (is_embedded fewer [] x ≡ false) = or_none (is_in (shown_by o.pages.value) x) (is_embedded fewer [] x) free in
             holds x (ap (λ l. is_in l x) (sym fewer_objs) ∙ (without_parts (is_in []) (objs fewer) x inside).0)
-            (either_none (is_in (shown_by o.pages) x) (is_embedded nodes gone x) none.0 (elim (cases_Bool (is_embedded nodes gone x)) [
+            (either_none (is_in (shown_by o.pages.value) x) (is_embedded nodes gone x) none.0 (elim (cases_Bool (is_embedded nodes gone x)) [
               | inr isnt ↦ isnt
               | inl is ↦
                   let e : (p : Obj) × (is_in (objs nodes) p ≡ true) × (is_in gone p ≡ false) × (is_in (children_of (at nodes p)) x ≡ true) = embedder nodes gone x is in

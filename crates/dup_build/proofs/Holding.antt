@@ -1,9 +1,8 @@
 -- What is held, and what is let go.
 use Rattle.std.proofs.Common.{◌≡◌, arith, inl, inr, Bool, true, false, not, cond, ◌||◌, ◌&&◌, List, [], ◌∷◌, ◌++◌, length, refl, sym, ap, ◌∙◌}
-use Rattle.std.specs.Bool.{◌==◌}
 use Rattle.std.specs.List.{list_any}
 use Rattle.std.specs.Cmp.{both_ways}
-use Rattle.std.proofs.lemmas.Bool.{eqb-true, true≢false, cases_Bool, or_cases, or_left}
+use Rattle.std.proofs.lemmas.Bool.{true≢false, cases_Bool, or_cases, or_left}
 use Rattle.dup_names.specs.Order.{obj_cmp}
 use Rattle.dup_names.specs.Words.{in_order}
 use Rattle.dup_names.specs.declared.object.Obj.{Obj}
@@ -160,19 +159,5 @@ module _ (nodes : List (Obj × Node)) where
     pub free_loose : (loose : List Obj) → HoldsBut roots nodes [] loose → HoldsBut roots nodes [] (without (is_embedded nodes []) loose)
     free_loose loose h o inside none = without_from (is_embedded nodes []) loose o (h o inside none) (or_none (is_in roots o) (is_embedded nodes [] o) none).1
 
--- what these roots hold depends on which they are alone
-pub same_roots : (nodes : List (Obj × Node)) (roots others gone loose : List Obj) → ((x : Obj) → is_in roots x ≡ is_in others x) → HoldsBut roots nodes gone loose → HoldsBut others nodes gone loose
-same_roots nodes roots others gone loose same h o inside none = h o inside (ap (λ b. b || is_embedded nodes gone o) (same o) ∙ none)
-
-pub same_gone : (nodes : List (Obj × Node)) (roots others gone : List Obj) → ((x : Obj) → is_in roots x ≡ is_in others x) → AreGone roots nodes gone → AreGone others nodes gone
-same_gone nodes roots others gone same h = record {
-  kept = h.kept;
-  free = λ o k. ap (λ b. b || is_embedded nodes gone o) (sym (same o)) ∙ h.free o k;
-}
-
 pub none_gone : (roots : List Obj) (nodes : List (Obj × Node)) → AreGone roots nodes []
 none_gone roots nodes = record { kept = λ o h. absurd (true≢false (sym h)); free = λ o h. absurd (true≢false (sym h)) }
-
-pub none_left : (os : List Obj) → true ≡ (length os == 0) → os ≡ []
-none_left [] h = refl
-none_left (o ∷ os) h = absurd (omega (arith, eqb-true (length (o ∷ os)) 0 (sym h)))

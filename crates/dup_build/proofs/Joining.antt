@@ -133,7 +133,7 @@ module _ (c : Content) (nodes : List (Obj × Node)) (looks : List (Obj × Shown)
   work = record { version = 0; last_handed = None; done = objs nodes; looked = objs looks; once = []; expanded = 0; joined = 0 }
 
   pub joined_stock : lvl ≡ level_in before → objs more ≡ in_order obj_cmp (lvl ++ objs looks) → ((q : Obj) → look_at more q ≡ last_look q (look_at looks q) (map (look c) lvl)) →
-      o'.pages ≡ o.pages → o'.loose ≡ o.loose → o'.waiting ≡ o.waiting → o'.unjoined ≡ without (is_in lvl) o.unjoined → IsStock c nodes more o'
+      o'.pages.value ≡ o.pages.value → o'.loose ≡ o.loose → o'.waiting ≡ o.waiting → o'.unjoined ≡ without (is_in lvl) o.unjoined → IsStock c nodes more o'
   joined_stock is more_objs more_at same_pages same_loose waits unjoined_is =
       let looked : objs more ≡ in_order obj_cmp (level c work ++ objs looks) = more_objs ∙ ap (λ l. in_order obj_cmp (l ++ objs looks)) is in
       record {

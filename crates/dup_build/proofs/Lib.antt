@@ -16,3 +16,5 @@ pub mod Graphs
 pub mod Contents
 pub mod Holding
 pub mod Leaving
+pub mod Starting
+pub mod Paging

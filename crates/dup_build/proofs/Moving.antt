@@ -10,6 +10,8 @@ use Rattle.dup_model.specs.Skeletons.{embeds}
 use Rattle.dup_names.specs.Objects.{is_in}
 use Rattle.dup_model.specs.Touched.{without, touched, affected}
 use Rattle.dup_model.specs.Found.{found, waiting}
+use Rattle.dup_model.specs.Found.Found.{of_page}
+use Rattle.dup_model.proofs.FoundWords.{found_is_found}
 use Rattle.dup_model.specs.Pages.{pages}
 use Rattle.dup_model.specs.ChangedItems.{KeysAreKeys}
 use Rattle.dup_model.specs.Embeddings.{EmbedsEarlier}
@@ -30,9 +32,9 @@ use Rattle.dup_sets.proofs.Entries.{at_in}
 use Rattle.dup_machine.proofs.Growing.{found_is_reached, opened_below, reached_unseen}
 use Rattle.dup_machine.proofs.InOrder.{IsOrdered, same_ordered, ordered_filter, ordered_found, in_without}
 use Rattle.dup_sets.proofs.Sets.{without_same, without_twice}
-use Rattle.dup_build.proofs.Walking.{past_stops, without_stops}
+use Rattle.dup_build.proofs.Walking.{from_starts, past_stops, to_starts, without_stops}
 use Rattle.dup_build.proofs.Holding.{embedded_by, embedder, or_none, without_from}
-use Rattle.dup_build.specs.Loose.{is_embedded, is_held, shown_by, HoldsBut, Loosened}
+use Rattle.dup_build.specs.Loose.{is_embedded, is_held, shown_by, AreStarts, HadNoLook, HoldsBut, Loosened}
 use Rattle.dup_build.proofs.Stocking.{reached_as}
 
 module _ (c : Content) (nodes : List (Obj × Node)) (looks : List (Obj × Shown)) (dropped stale done : List Obj) (earlier : EmbedsEarlier c)
@@ -44,20 +46,21 @@ module _ (c : Content) (nodes : List (Obj × Node)) (looks : List (Obj × Shown)
   shut f g h k = closed.embedded f g h (opened_below c done f g k).1
 
   -- what a walk from the pages' objects reaches past what has a look is what is found and has none
-  pub surveyed : (none : List Obj) → none ≡ [] → (roots : List Obj) → roots ≡ page_objs c → (fresh : List Obj) → IsOrdered fresh →
-      ((g : Obj) → (is_in fresh g ≡ true) ↔ Reached (below nodes dropped) (seen looks stale none) roots g) → fresh ≡ without (is_in left_looks) (found c done)
-  surveyed none empty roots pages fresh ordered each = same_ordered fresh (without (is_in left_looks) (found c done)) ordered (ordered_filter (λ o. not (is_in left_looks o)) (found c done) (ordered_found c done)) (λ g.
-      let at : (is_in fresh g ≡ true) ↔ Reached (opened c done) (λ o. is_in left_looks o || false) (page_objs c) g =
+  pub surveyed : (none : List Obj) → none ≡ [] → (starts : List Obj) → AreStarts (page_objs c) looks stale starts → (fresh : List Obj) → IsOrdered fresh →
+      ((g : Obj) → (is_in fresh g ≡ true) ↔ Reached (below nodes dropped) (seen looks stale none) starts g) → fresh ≡ without (is_in left_looks) (found c done)
+  surveyed none empty starts are fresh ordered each = same_ordered fresh (without (is_in left_looks) (found c done)) ordered (ordered_filter (λ o. not (is_in left_looks o)) (found c done) (ordered_found c done)) (λ g.
+      let at : (is_in fresh g ≡ true) ↔ Reached (opened c done) (λ o. is_in left_looks o || false) starts g =
       reached_as (below nodes dropped) (opened c done) same (seen looks stale none) (λ o. is_in left_looks o || false) (λ f. ap (λ l. is_in left_looks f || is_in l f) empty)
-      roots (page_objs c) pages (is_in fresh g ≡ true) g (each g) in
+      starts starts refl (is_in fresh g ≡ true) g (each g) in
       both_ways (is_in fresh g) (is_in (without (is_in left_looks) (found c done)) g)
       (λ h.
-      let way : Reached (opened c done) (λ o. is_in left_looks o || false) (page_objs c) g = at.0 h in
+      let way : Reached (opened c done) (λ o. is_in left_looks o || false) (page_objs c) g = from_starts (opened c done) (λ o. is_in left_looks o || false) (page_objs c) starts are.rooted (at.0 h) in
       without_from (is_in left_looks) (found c done) g ((found_is_reached c done g earlier).1 (without_stops (opened c done) (is_in left_looks) (λ _. false) shut (page_objs c) way))
       (sym (or_nothing (is_in left_looks g)) ∙ reached_unseen (opened c done) (λ o. is_in left_looks o || false) (page_objs c) way))
       (λ h.
       let parts : (is_in (found c done) g ≡ true) × (is_in left_looks g ≡ false) = without_parts (is_in left_looks) (found c done) g h in
-      at.1 (past_stops (opened c done) (is_in left_looks) (λ _. false) shut (page_objs c) ((found_is_reached c done g earlier).0 parts.0) parts.1)))
+      at.1 (to_starts (opened c done) (λ o. is_in left_looks o || false) (page_objs c) starts (λ x k out. are.all x k (sym (or_nothing (is_in left_looks x)) ∙ out))
+      (past_stops (opened c done) (is_in left_looks) (λ _. false) shut (page_objs c) ((found_is_reached c done g earlier).0 parts.0) parts.1))))
     where
       or_nothing : (b : Bool) → (b || false) ≡ b
       or_nothing true = refl
@@ -96,6 +99,10 @@ module _ (a b : Content) (frames : a.frame ≡ b.frame) where
             and_none true = refl
             and_none false = refl
         by_dropped false is = by_node (at nodes o) refl is ∙ sym (λ i. cond (at_in nodes o i && not (is i)) (embeds b o) [])
+
+-- a page's object without a look is found without one
+pub had_no_look : (c : Content) (nodes : List (Obj × Node)) (looks : List (Obj × Shown)) (o : Survey) → EmbedsEarlier c → IsStock c nodes looks o → HadNoLook (page_objs c) looks o.unjoined
+had_no_look c nodes looks o earlier k g h out = ap (λ l. is_in l g) k.unjoined ∙ without_from (is_in (objs looks)) (found c (objs nodes)) g ((found_is_found c (objs nodes) g earlier).1 (of_page h)) out
 
 -- what is left of an entry once some are taken out
 pub still : {T : Type 0} (d : Bool) (m : Option T) (n : T) → cond d None m ≡ Some n → (d ≡ false) × (m ≡ Some n)
@@ -143,24 +150,24 @@ module _ (a b : Content) (frames : a.frame ≡ b.frame) (earlier : EmbedsEarlier
   module _ (fewer : List (Obj × Node)) (fewer_looks : List (Obj × Shown)) (o' : Survey)
       (fewer_at : (q : Obj) → at fewer q ≡ cond (is_in dropped q) None (at nodes q)) (fewer_objs : objs fewer ≡ without (is_in dropped) (objs nodes))
       (looks_at : (q : Obj) → at fewer_looks q ≡ cond (is_in stale q) None (at looks q)) (looks_objs : objs fewer_looks ≡ without (is_in stale) (objs looks))
-      (pages_are : o'.pages ≡ pages b) (loose : Loosened o.pages o.loose nodes dropped o'.pages o'.loose) (waits : o'.waiting ≡ waiting b (without (is_in dropped) (objs nodes)))
+      (pages_are : o'.pages.value ≡ pages b) (loose : Loosened o.pages.value o.loose nodes dropped o'.pages.value o'.loose) (waits : o'.waiting ≡ waiting b (without (is_in dropped) (objs nodes)))
       (unjoined : o'.unjoined ≡ without (is_in (without (is_in stale) (objs looks))) (found b (without (is_in dropped) (objs nodes)))) where
     in_fewer : (q : Obj) → is_in (objs fewer) q ≡ (is_in (objs nodes) q && not (is_in dropped q))
     in_fewer q = ap (λ l. is_in l q) fewer_objs ∙ in_without (is_in dropped) (objs nodes) q
 
     -- what isn't held any more has come loose
-    held_moved : HoldsBut (shown_by o'.pages) fewer [] o'.loose
-    held_moved x inside free = by_held (is_held (shown_by o.pages) nodes [] x) refl
+    held_moved : HoldsBut (shown_by o'.pages.value) fewer [] o'.loose
+    held_moved x inside free = by_held (is_held (shown_by o.pages.value) nodes [] x) refl
       where
         was : (is_in (objs nodes) x ≡ true) × (is_in dropped x ≡ false)
         was = without_parts (is_in dropped) (objs nodes) x (sym (ap (λ l. is_in l x) fewer_objs) ∙ (without_parts (is_in []) (objs fewer) x inside).0)
 
-        unheld : (is_in (shown_by o'.pages) x ≡ false) × (is_embedded fewer [] x ≡ false)
-        unheld = or_none (is_in (shown_by o'.pages) x) (is_embedded fewer [] x) free
+        unheld : (is_in (shown_by o'.pages.value) x ≡ false) × (is_embedded fewer [] x ≡ false)
+        unheld = or_none (is_in (shown_by o'.pages.value) x) (is_embedded fewer [] x) free
 
-        by_held : (b : Bool) → is_held (shown_by o.pages) nodes [] x ≡ b → is_in o'.loose x ≡ true
+        by_held : (b : Bool) → is_held (shown_by o.pages.value) nodes [] x ≡ b → is_in o'.loose x ≡ true
         by_held false none = loose.before x (k.held x (without_from (is_in []) (objs nodes) x was.0 refl) none)
-        by_held true some = elim (or_cases (is_in (shown_by o.pages) x) (is_embedded nodes [] x) some) [
+        by_held true some = elim (or_cases (is_in (shown_by o.pages.value) x) (is_embedded nodes [] x) some) [
           | inl page ↦ loose.left x page unheld.0
           | inr in_one ↦
               let e : (p : Obj) × (is_in (objs nodes) p ≡ true) × (is_in [] p ≡ false) × (is_in (children_of (at nodes p)) x ≡ true) = embedder nodes [] x in_one in

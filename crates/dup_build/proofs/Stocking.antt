@@ -112,8 +112,8 @@ reached_over c nodes looks o k none is roots P g h =
     (λ f. (λ i. is_in (without (is_in (is i)) (objs looks)) f || is_in (k.unjoined i) f) ∙ ap (λ l. is_in l f || is_in (unjoined_in s) f) (without_none (objs looks))) roots roots refl P g h
 
 -- what is held depends on the pages and on what is loose alone
-pub same_held : (nodes : List (Obj × Node)) (o o' : Survey) → o'.pages ≡ o.pages → o'.loose ≡ o.loose → HoldsBut (shown_by o.pages) nodes [] o.loose → HoldsBut (shown_by o'.pages) nodes [] o'.loose
-same_held nodes o o' pages loose h = subst (HoldsBut (shown_by o'.pages) nodes []) (sym loose) (subst (λ ps. HoldsBut (shown_by ps) nodes [] o.loose) (sym pages) h)
+pub same_held : (nodes : List (Obj × Node)) (o o' : Survey) → o'.pages.value ≡ o.pages.value → o'.loose ≡ o.loose → HoldsBut (shown_by o.pages.value) nodes [] o.loose → HoldsBut (shown_by o'.pages.value) nodes [] o'.loose
+same_held nodes o o' pages loose h = subst (HoldsBut (shown_by o'.pages.value) nodes []) (sym loose) (subst (λ ps. HoldsBut (shown_by ps) nodes [] o.loose) (sym pages) h)
 
 module _ (c : Content) (nodes : List (Obj × Node)) (looks : List (Obj × Shown)) (o : Survey) (k : IsStock c nodes looks o) (earlier : EmbedsEarlier c)
     (x : Obj) (n : Node) (is_node : IsNode c x n) (waits : is_in o.waiting x ≡ true) (fresh : List Obj)
@@ -219,7 +219,7 @@ module _ (c : Content) (nodes : List (Obj × Node)) (looks : List (Obj × Shown)
 
   module _ (keyed : KeyOk x.key) (more : List (Obj × Node)) (o' : Survey)
       (more_at : (q : Obj) → at more q ≡ cond (same_obj q x) (Some n) (at nodes q)) (more_objs : objs more ≡ in_order obj_cmp (x ∷ objs nodes))
-      (more_pages : o'.pages ≡ o.pages) (more_loose : o'.loose ≡ o.loose)
+      (more_pages : o'.pages.value ≡ o.pages.value) (more_loose : o'.loose ≡ o.loose)
       (more_waiting : o'.waiting ≡ without (same_obj x) (in_order obj_cmp (without (is_in (objs nodes)) fresh ++ o.waiting)))
       (more_unjoined : o'.unjoined ≡ in_order obj_cmp (fresh ++ o.unjoined)) where
     in_more : (q : Obj) → is_in (objs nodes) q ≡ true → is_in (objs more) q ≡ true
@@ -236,18 +236,18 @@ module _ (c : Content) (nodes : List (Obj × Node)) (looks : List (Obj × Shown)
     still_embedded p q h below_it = embedded_by more [] p q (in_more p h) refl (ap (λ m. is_in (children_of m) q) (still_at p h) ∙ below_it)
 
     -- the object itself is a page's, or embedded by one that is done
-    itself_held : {q : Obj} → Found c (objs nodes) q → is_held (shown_by o.pages) more [] q ≡ true
-    itself_held (of_page {o = q} h) = or_left (is_in (shown_by o.pages) q) (is_embedded more [] q) (ap (λ ps. is_in (shown_by ps) q) k.pages ∙ h)
-    itself_held (embedded {f} way is_done q h) = or_right (is_in (shown_by o.pages) q) (is_embedded more [] q)
+    itself_held : {q : Obj} → Found c (objs nodes) q → is_held (shown_by o.pages.value) more [] q ≡ true
+    itself_held (of_page {o = q} h) = or_left (is_in (shown_by o.pages.value) q) (is_embedded more [] q) (ap (λ ps. is_in (shown_by ps) q) k.pages ∙ h)
+    itself_held (embedded {f} way is_done q h) = or_right (is_in (shown_by o.pages.value) q) (is_embedded more [] q)
         (still_embedded f q is_done (ap (λ l. is_in l q) (children_opened c nodes k.nodes_are f) ∙ below_opened c (objs nodes) f q is_done h))
 
-    held_now : HoldsBut (shown_by o.pages) more [] o.loose
+    held_now : HoldsBut (shown_by o.pages.value) more [] o.loose
     held_now q inside free =
         elim (or_cases (same_obj q x) (is_in (objs nodes) q) (sym (in_ordered (x ∷ objs nodes) q) ∙ ap (λ l. is_in l q) (sym more_objs) ∙ (without_parts (is_in []) (objs more) q inside).0)) [
           | inl one ↦ absurd (true≢false (sym (itself_held ((found_is_found c (objs nodes) q earlier).0 (ap (is_in there) (obj_same q x one) ∙ is_found))) ∙ free))
           | inr old ↦
-              let none : (is_in (shown_by o.pages) q ≡ false) × (is_embedded more [] q ≡ false) = or_none (is_in (shown_by o.pages) q) (is_embedded more [] q) free in
-              k.held q (without_from (is_in []) (objs nodes) q old refl) (either_none (is_in (shown_by o.pages) q) (is_embedded nodes [] q) none.0 (elim (cases_Bool (is_embedded nodes [] q)) [
+              let none : (is_in (shown_by o.pages.value) q ≡ false) × (is_embedded more [] q ≡ false) = or_none (is_in (shown_by o.pages.value) q) (is_embedded more [] q) free in
+              k.held q (without_from (is_in []) (objs nodes) q old refl) (either_none (is_in (shown_by o.pages.value) q) (is_embedded nodes [] q) none.0 (elim (cases_Bool (is_embedded nodes [] q)) [
                 | inr isnt ↦ isnt
                 | inl is ↦
                     let e : (p : Obj) × (is_in (objs nodes) p ≡ true) × (is_in [] p ≡ false) × (is_in (children_of (at nodes p)) q ≡ true) = embedder nodes [] q is in
@@ -289,8 +289,8 @@ same_stock c nodes more looks o same_at same_objs k = record {
   keys = k.keys;
 }
   where
-    same_held_at : (q : Obj) → is_held (shown_by o.pages) nodes [] q ≡ is_held (shown_by o.pages) more [] q
-    same_held_at q = ap (λ b. is_in (shown_by o.pages) q || b) ((λ i. list_any (λ p. is_in (children_of (sym (same_at p) i)) q) (objs nodes)) ∙ ap (list_any (λ p. is_in (children_of (at more p)) q)) (sym same_objs))
+    same_held_at : (q : Obj) → is_held (shown_by o.pages.value) nodes [] q ≡ is_held (shown_by o.pages.value) more [] q
+    same_held_at q = ap (λ b. is_in (shown_by o.pages.value) q || b) ((λ i. list_any (λ p. is_in (children_of (sym (same_at p) i)) q) (objs nodes)) ∙ ap (list_any (λ p. is_in (children_of (at more p)) q)) (sym same_objs))
 
 -- a node that was put in is taken out again
 pub at_back : (nodes more less : List (Obj × Node)) (x : Obj) (n : Node) → is_in (objs nodes) x ≡ false →

@@ -95,6 +95,14 @@ module _ (below : Obj → List Obj) (is_seen : Obj → Bool) where
       inside (root {g} h unseen) = w.rooted g h unseen
       inside (onward {f} k g h unseen) = w.onward f g (inside k) refl h unseen
 
+-- a walk may start at fewer roots, if all that are left out were seen
+pub from_starts : (below : Obj → List Obj) (is_seen : Obj → Bool) (roots starts : List Obj) → ((g : Obj) → is_in starts g ≡ true → is_in roots g ≡ true) → {g : Obj} → Reached below is_seen starts g → Reached below is_seen roots g
+from_starts below is_seen roots starts among way = more_roots below is_seen starts roots among way
+
+pub to_starts : (below : Obj → List Obj) (is_seen : Obj → Bool) (roots starts : List Obj) → ((g : Obj) → is_in roots g ≡ true → is_seen g ≡ false → is_in starts g ≡ true) → {g : Obj} → Reached below is_seen roots g → Reached below is_seen starts g
+to_starts below is_seen roots starts all (root {g} h new) = root (all g h new) new
+to_starts below is_seen roots starts all (onward k g h new) = onward (to_starts below is_seen roots starts all k) g h new
+
 -- past objects that lead to no others, all else is reached as before
 module _ (below : Obj → List Obj) (stop others : Obj → Bool) (shut : (f g : Obj) → stop f ≡ true → is_in (below f) g ≡ true → stop g ≡ true) (roots : List Obj) where
   pub past_stops : {g : Obj} → Reached below others roots g → stop g ≡ false → Reached below (λ o. stop o || others o) roots g

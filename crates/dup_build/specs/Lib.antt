@@ -9,3 +9,4 @@ pub mod Answers
 pub mod Build
 pub mod Closing
 pub mod Loose
+pub mod Paged

@@ -7,6 +7,7 @@ use Rattle.dup_names.specs.Objects.{is_in}
 use Rattle.dup_model.specs.Touched.{without}
 use Rattle.dup_graph.specs.Graph.{Nodes, node_at}
 use Rattle.dup_build.specs.declared.node.Node.{Node}
+use Rattle.dup_build.specs.declared.node.Shown.{Shown}
 use Rattle.dup_build.specs.Nodes.{below, children_of}
 use Rattle.dup_sets.specs.Entries.{at, objs}
 
@@ -55,3 +56,14 @@ pub record Loosened (old_pages : List (Path × Obj)) (old_loose : List Obj) (nod
   pub embedded : (p o : Obj) → IsTrue (is_in dropped p) → IsTrue (is_in (children_of (at nodes p)) o) →
       IsTrue (is_in loose o)
   pub left : LeavesPages old_pages pages loose
+
+-- of these objects, all that have no look are among those
+abbrev pub HadNoLook : List Obj → List (Obj × Shown) → List Obj → Type 0
+HadNoLook roots looks unjoined = (o : Obj) → IsTrue (is_in roots o) → is_in (objs looks) o ≡ false →
+    IsTrue (is_in unjoined o)
+
+-- these are roots, among them all that have no look which isn't stale
+pub record AreStarts (roots : List Obj) (looks : List (Obj × Shown)) (stale starts : List Obj) : Type 0 where
+  pub rooted : (o : Obj) → IsTrue (is_in starts o) → IsTrue (is_in roots o)
+  pub all : (o : Obj) → IsTrue (is_in roots o) → is_in (without (is_in stale) (objs looks)) o ≡ false →
+      IsTrue (is_in starts o)

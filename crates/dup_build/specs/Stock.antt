@@ -25,9 +25,9 @@ pub record IsStock
   pub nodes_are : (x : Obj) → ForSome (at nodes x) (IsNode c x)
   pub looks_are : (x : Obj) → ForSome (at looks x) (λ s. s.look.value ≡ look c x)
   pub closed : IsClosed c (objs nodes) (objs looks)
-  pub pages : o.pages ≡ pages c
+  pub pages : o.pages.value ≡ pages c
   pub waits : o.waiting ≡ waiting c (objs nodes)
   pub unjoined : o.unjoined ≡ without (is_in (objs looks)) (found c (objs nodes))
-  pub held : HoldsBut (shown_by o.pages) nodes [] o.loose
+  pub held : HoldsBut (shown_by o.pages.value) nodes [] o.loose
   pub keyed : (x : Obj) → IsTrue (is_in (objs nodes) x) → KeyOk x.key
   pub keys : KeysAreKeys c

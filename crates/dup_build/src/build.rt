@@ -5,6 +5,7 @@ ghost use Rattle.dup_names.specs.declared.object.Obj.{Obj};
 ghost use Rattle.dup_model.specs.ChangedItems.{KeysAreKeys};
 ghost use Rattle.dup_model.specs.Content.{start};
 ghost use Rattle.dup_model.specs.Looks.{look};
+ghost use Rattle.dup_model.specs.Pages.{pages};
 ghost use Rattle.dup_names.specs.Objects.{is_in};
 ghost use Rattle.dup_model.specs.Touched.{touched, affected};
 ghost use Rattle.dup_build.specs.Answers.{begun_told, finish_told, joined_told, ForTouched, IsUnclosed, SaysPut};
@@ -22,7 +23,7 @@ ghost use Rattle.dup_build.specs.Built as built;
 ghost use Rattle.dup_build.specs.Closing.{IsClosing};
 
 use crate::answers::{Begun, Closing, Finish, Joined, Put};
-use crate::hits::hits_of;
+use crate::hits::{hits_of, rows_change};
 use crate::job::Job;
 use crate::keyed::commits_keyed;
 use crate::levels::{level_looks, level_of, plan};
@@ -103,10 +104,12 @@ impl Build {
         content: &Content,
         dropped: &ObjSet,
         stale: &ObjSet,
+        same_pages: bool,
     ) -> Result<Begun, NoMemory>
         requires idle { self.old.works.work ≡ None }
         requires frame { self.old.works.content.frame ≡ content.now.frame }
         requires keys { KeysAreKeys content.now }
+        requires pages { IsTrue same_pages → pages self.old.works.content ≡ pages content.now }
         requires dropped { (o : Obj) → IsTrue (is_in (built.done_in self.old.works) o) →
             is_in dropped.now o ≡ touched self.old.works.content content.now o }
         requires stale { (o : Obj) → IsTrue (is_in (built.looked_in self.old.works) o) → is_in stale.now o
@@ -118,7 +121,8 @@ impl Build {
         ensures err { OnErr result (self.new ≡ self.old) }
     {
         let gone = dropped.list(alloc)?;
-        self.stock.move_to(alloc, content, dropped, stale)?;
+        self.stock
+            .move_to(alloc, content, dropped, stale, same_pages)?;
         drop_all(&mut self.graph, &gone);
         self.version = version;
         self.is_open = true;
@@ -139,10 +143,12 @@ impl Build {
         content: &Content,
         dropped: &ObjSet,
         stale: &ObjSet,
+        same_pages: bool,
     ) -> Result<Begun, NoMemory>
         requires busy { IsSome self.old.works.work }
         requires frame { self.old.works.content.frame ≡ content.now.frame }
         requires keys { KeysAreKeys content.now }
+        requires pages { IsTrue same_pages → pages self.old.works.content ≡ pages content.now }
         requires dropped { (o : Obj) → IsTrue (is_in (built.done_in self.old.works) o) →
             is_in dropped.now o ≡ touched self.old.works.content content.now o }
         requires stale { (o : Obj) → IsTrue (is_in (built.looked_in self.old.works) o) → is_in stale.now o
@@ -154,7 +160,8 @@ impl Build {
         ensures err { OnErr result (self.new ≡ self.old) }
     {
         let gone = dropped.list(alloc)?;
-        self.stock.move_to(alloc, content, dropped, stale)?;
+        self.stock
+            .move_to(alloc, content, dropped, stale, same_pages)?;
         drop_all(&mut self.graph, &gone);
         self.version = version;
         self.last_handed = None;
@@ -171,9 +178,11 @@ impl Build {
         content: &Content,
         dropped: &ObjSet,
         stale: &ObjSet,
+        same_pages: bool,
     ) -> Result<Begun, NoMemory>
         requires frame { self.old.works.content.frame ≡ content.now.frame }
         requires keys { KeysAreKeys content.now }
+        requires pages { IsTrue same_pages → pages self.old.works.content ≡ pages content.now }
         requires dropped { (o : Obj) → IsTrue (is_in (built.done_in self.old.works) o) →
             is_in dropped.now o ≡ touched self.old.works.content content.now o }
         requires stale { (o : Obj) → IsTrue (is_in (built.looked_in self.old.works) o) → is_in stale.now o
@@ -188,15 +197,15 @@ impl Build {
             if self.version == version {
                 return Ok(Begun::Same(self.version));
             }
-            return self.move_at(alloc, version, content, dropped, stale);
+            return self.move_at(alloc, version, content, dropped, stale, same_pages);
         }
         match &self.target {
-            None => self.open_at(alloc, version, content, dropped, stale),
+            None => self.open_at(alloc, version, content, dropped, stale, same_pages),
             Some(target) => {
                 if target.version == version {
                     return Ok(Begun::Nothing(target.version));
                 }
-                self.open_at(alloc, version, content, dropped, stale)
+                self.open_at(alloc, version, content, dropped, stale, same_pages)
             }
         }
     }
@@ -206,7 +215,8 @@ impl Build {
     /// drops the skeletons that read a changed item, and the looks in which one of these is shown.
     ///
     /// The cost is that of the rows that the commits name, of a walk along the graph from the changed
-    /// items, and of one walk over what is found.
+    /// items, of what these reach and of what that embeds; where rows come or go, that of listing the pages
+    /// too. Nothing is done for another object.
     pub fn begin(
         &mut self,
         alloc: Global,
@@ -224,7 +234,14 @@ impl Build {
         commits_keyed(commits);
         let changed = changed(alloc, self.stock.content(), content, commits)?;
         let hits = hits_of(alloc, &self.graph, &changed)?;
-        self.begin_over(alloc, version, content, &hits.dropped, &hits.stale)
+        self.begin_over(
+            alloc,
+            version,
+            content,
+            &hits.dropped,
+            &hits.stale,
+            !rows_change(&changed),
+        )
     }
 
     /// The version of the open work, where one is open. It takes no memory.

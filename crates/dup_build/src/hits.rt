@@ -1,5 +1,7 @@
 // What changed items reach along the graph.
 ghost use Rattle.std.specs.Prelude.{◌≡◌, ◌<◌, IfOk};
+ghost use Rattle.std.specs.List.{list_any};
+ghost use Rattle.dup_build.specs.Paged.{is_list};
 ghost use Rattle.dup_names.specs.declared.object.Obj.{Obj};
 ghost use Rattle.dup_names.specs.Objects.{is_in};
 ghost use Rattle.dup_graph.specs.Graph.{node_at};
@@ -49,4 +51,17 @@ pub(crate) fn hits_of(alloc: Global, graph: &Graph, changed: &[Item]) -> Result<
 {
     let made = counted::<Brand>(alloc, Blank::new(1), graph, changed)?;
     Ok(made)
+}
+
+fn is_list(item: &Item) -> bool
+    ensures { result ≡ is_list item.now }
+{
+    matches!(item, Item::List { .. })
+}
+
+/// Whether a kind got or lost a row, where these are the changed items.
+pub(crate) fn rows_change(changed: &[Item]) -> bool
+    ensures { result ≡ list_any is_list changed.now }
+{
+    changed.iter().any(|item| is_list(item))
 }

@@ -9,6 +9,7 @@ mod keyed;
 mod levels;
 mod loose;
 mod node;
+mod paged;
 mod paths;
 mod reach;
 mod reads;

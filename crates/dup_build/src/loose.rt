@@ -9,9 +9,9 @@ ghost use Rattle.dup_build.specs.Nodes.{ChildrenEarlier};
 ghost use Rattle.dup_build.specs.Loose.{is_embedded, is_held, shown_by, AreGone, HasChildren, HoldsBut, LetGo};
 
 use crate::node::{Node, node_children, stays};
-use crate::survey::objs_shown;
+use crate::paged::Paged;
 use dup_graph::{Graph, Steps};
-use dup_names::{NoMemory, Obj, Path};
+use dup_names::{NoMemory, Obj};
 use dup_sets::{ObjSet, Table};
 use std::alloc::Global;
 use std::marker::Brand;
@@ -49,21 +49,21 @@ fn is_embedded(graph: &Graph, nodes: &Table<Node>, gone: &ObjSet, obj: &Obj) -> 
 fn let_go(
     graph: &Graph,
     nodes: &Table<Node>,
-    roots: &ObjSet,
+    pages: &Paged,
     obj: &Obj,
     gone: &mut ObjSet,
 ) -> Result<(), NoMemory>
     requires earlier { ChildrenEarlier nodes.now }
     requires children { HasChildren graph.now nodes.now }
-    ensures { OnOk result (LetGo roots.now nodes.now (obj.now ∷ []) gone.old gone.new) }
+    ensures { OnOk result (LetGo (shown_by pages.now) nodes.now (obj.now ∷ []) gone.old gone.new) }
 {
-    if !stays(nodes, gone, obj) || roots.contains(obj) || is_embedded(graph, nodes, gone, obj) {
+    if !stays(nodes, gone, obj) || pages.shows(obj) || is_embedded(graph, nodes, gone, obj) {
         return Ok(());
     }
     gone.add(*obj)?;
     let children = node_children(nodes, obj);
     for child in children {
-        let_go(graph, nodes, roots, child, gone)?;
+        let_go(graph, nodes, pages, child, gone)?;
     }
     Ok(())
 }
@@ -73,16 +73,16 @@ fn let_all_go(
     alloc: Global,
     graph: &Graph,
     nodes: &Table<Node>,
-    roots: &ObjSet,
+    pages: &Paged,
     free: &[Obj],
 ) -> Result<ObjSet, NoMemory>
     requires earlier { ChildrenEarlier nodes.now }
     requires children { HasChildren graph.now nodes.now }
-    ensures { IfOk result (LetGo roots.now nodes.now free.now []) }
+    ensures { IfOk result (LetGo (shown_by pages.now) nodes.now free.now []) }
 {
     let mut gone = ObjSet::new(alloc);
     for obj in free {
-        let_go(graph, nodes, roots, obj, &mut gone)?;
+        let_go(graph, nodes, pages, obj, &mut gone)?;
     }
     Ok(gone)
 }
@@ -108,13 +108,13 @@ fn free_among(
 }
 
 /// The objects with nodes that are to go, so that each that is left is a page's or is embedded by one that is
-/// left, where all others are held already. The cost is that of these others, of what goes and of what that
-/// embeds, each with the objects that embed it; where anything goes, that of the pages too.
+/// left, where all but the loose ones are held already. The cost is that of these, of what goes and of what that
+/// embeds, each with the objects that embed it.
 pub(crate) fn unheld(
     alloc: Global,
     graph: &Graph,
     nodes: &Table<Node>,
-    pages: &[(Path, Obj)],
+    pages: &Paged,
     loose: &ObjSet,
 ) -> Result<ObjSet, NoMemory>
     requires earlier { ChildrenEarlier nodes.now }
@@ -125,11 +125,6 @@ pub(crate) fn unheld(
 {
     let loose = loose.list(alloc)?;
     let free = free_among(alloc, graph, nodes, &loose)?;
-    if free.as_slice().is_empty() {
-        return Ok(ObjSet::new(alloc));
-    }
-    let shown = objs_shown(alloc, pages)?;
-    let roots = ObjSet::of(alloc, &shown)?;
-    let gone = let_all_go(alloc, graph, nodes, &roots, &free)?;
+    let gone = let_all_go(alloc, graph, nodes, pages, &free)?;
     Ok(gone)
 }

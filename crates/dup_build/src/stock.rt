@@ -19,7 +19,7 @@ ghost use Rattle.std.specs.List.{filter, list_all, list_any};
 ghost use Rattle.dup_model.specs.Looks.{look};
 ghost use Rattle.dup_model.specs.Skeletons.{embeds};
 ghost use Rattle.dup_join.specs.Jobs.{look_of};
-ghost use Rattle.dup_model.specs.Pages.{live, page_looks};
+ghost use Rattle.dup_model.specs.Pages.{live, page_looks, pages};
 ghost use Rattle.dup_sets.specs.Entries.{objs};
 ghost use Rattle.dup_build.specs.Targets.{looks_of};
 ghost use Rattle.dup_build.specs.Looked.{look_at, last_look};
@@ -184,8 +184,8 @@ impl Stock {
         let nodes = Table::new(alloc);
         let looks = Table::new(alloc);
         let none = ObjSet::new(alloc);
-        let last = Survey::none(alloc);
-        let progress = Survey::of(alloc, &content, &last, &nodes, &none, &looks, &none)?;
+        let last = Survey::none(alloc)?;
+        let progress = Survey::of(alloc, &content, &last, &nodes, &none, &looks, &none, false)?;
         Ok(Stock {
             content,
             nodes,
@@ -201,8 +201,10 @@ impl Stock {
         content: &Content,
         dropped: &ObjSet,
         stale: &ObjSet,
+        same_pages: bool,
     ) -> Result<(), NoMemory>
         requires frame { self.old.content.frame ≡ content.now.frame }
+        requires pages { IsTrue same_pages → pages self.old.content ≡ pages content.now }
         requires keys { KeysAreKeys content.now }
         requires dropped { (o : Obj) → IsTrue (is_in self.old.done o) → is_in dropped.now o
             ≡ touched self.old.content content.now o }
@@ -225,6 +227,7 @@ impl Stock {
             dropped,
             &self.looks,
             stale,
+            same_pages,
         )?;
         let dropped = dropped.list(alloc)?;
         let stale = stale.list(alloc)?;
@@ -489,7 +492,7 @@ impl Stock {
             alloc,
             graph,
             &self.nodes,
-            self.progress.pages.items(),
+            &self.progress.pages,
             &self.progress.loose,
         )?;
         let gone = gone.list(alloc)?;

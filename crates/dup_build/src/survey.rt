@@ -1,6 +1,6 @@
 // What stands at a content, and what a work has left to do there.
 ghost use Rattle.std.specs.Prelude.{◌≡◌, ◌++◌, ◌∷◌, [], false, IsTrue, IfOk, OnOk, OnErr, if◌then◌else◌};
-ghost use Rattle.std.specs.List.{flat_map};
+ghost use Rattle.std.specs.List.{filter, flat_map};
 ghost use Rattle.dup_names.specs.Order.{obj_cmp};
 ghost use Rattle.dup_names.specs.Words.{in_order};
 ghost use Rattle.dup_names.specs.declared.object.Obj.{Obj};
@@ -13,23 +13,24 @@ ghost use Rattle.dup_machine.specs.Closed.{IsClosed};
 ghost use Rattle.dup_machine.specs.Reached.{opened};
 ghost use Rattle.dup_sets.specs.Entries.{at, objs};
 ghost use Rattle.dup_build.specs.Nodes.{below, children_of, ChildrenEarlier};
-ghost use Rattle.dup_build.specs.Loose.{shown_by, LeavesPages, Loosened};
+ghost use Rattle.dup_build.specs.Loose.{shown_by, AreStarts, HadNoLook, LeavesPages, Loosened};
 
 use crate::node::{Node, Shown, node_children, stays};
+use crate::paged::{Paged, objs_shown};
 use crate::reach::reach;
-use dup_lists::Listed;
 use dup_names::{NoMemory, Obj, Path};
 use dup_pages::pages;
 use dup_records::Content;
 use dup_sets::{ObjSet, Table};
 use std::alloc::Global;
 use std::cmp::Ordering;
+use std::sync::Arc;
 
 /// The pages of a content; the found objects that wait, and those that have no look; and objects among
 /// which are all that have a skeleton, but neither are a page's nor embedded by one with a skeleton.
 #[derive(Drop)]
 pub(crate) struct Survey {
-    pub(crate) pages: Listed<(Path, Obj)>,
+    pub(crate) pages: Arc<Paged, Global>,
     pub(crate) waiting: ObjSet,
     pub(crate) unjoined: ObjSet,
     pub(crate) loose: ObjSet,
@@ -56,17 +57,6 @@ impl Survey {
         self.waiting.remove_all(waiting);
         Err(refused)
     }
-}
-
-/// The objects that these pages show.
-pub(crate) fn objs_shown(alloc: Global, pages: &[(Path, Obj)]) -> Result<Vec<Obj>, NoMemory>
-    ensures { IfOk result (λ made. made.items ≡ shown_by pages.now) }
-{
-    let mut objs = Vec::with_capacity(alloc, pages.len())?;
-    for page in pages {
-        objs.push(page.1)?;
-    }
-    Ok(objs)
 }
 
 // Puts one more in, unless it is the same as before.
@@ -122,6 +112,24 @@ fn embedded_by(alloc: Global, nodes: &Table<Node>, objs: &[Obj]) -> Result<Vec<O
     Ok(made)
 }
 
+// Objects among which are all that pages showed and show no more. The cost is that of one walk over both, side
+// by side, unless the pages are the same.
+fn left_by(
+    alloc: Global,
+    old: &[(Path, Obj)],
+    new: &[(Path, Obj)],
+    same: bool,
+) -> Result<Vec<Obj>, NoMemory>
+    requires { IsTrue same → old.now ≡ new.now }
+    ensures { IfOk result (λ left. LeavesPages old.now new.now left.items) }
+{
+    if same {
+        return Ok(Vec::new(alloc));
+    }
+    let left = pages_left(alloc, old, new)?;
+    Ok(left)
+}
+
 // What a survey leaves loose: what was loose, what the dropped nodes embed, and the objects whose pages left.
 fn loosened(
     alloc: Global,
@@ -129,14 +137,72 @@ fn loosened(
     nodes: &Table<Node>,
     dropped: &[Obj],
     pages: &[(Path, Obj)],
+    same: bool,
 ) -> Result<ObjSet, NoMemory>
-    ensures { IfOk result (Loosened last.now.pages last.now.loose nodes.now dropped.now pages.now) }
+    requires { IsTrue same → last.now.pages.value ≡ pages.now }
+    ensures { IfOk result (Loosened last.now.pages.value last.now.loose nodes.now dropped.now pages.now) }
 {
     let mut loose = last.loose.list(alloc)?;
     loose.extend_from_slice(&embedded_by(alloc, nodes, dropped)?)?;
-    loose.extend_from_slice(&pages_left(alloc, last.pages.items(), pages)?)?;
+    loose.extend_from_slice(&left_by(alloc, last.pages.items(), pages, same)?)?;
     let made = ObjSet::of(alloc, &loose)?;
     Ok(made)
+}
+
+// The pages of a content: the last ones, where they are the same.
+fn paged(
+    alloc: Global,
+    content: &Content,
+    last: &Survey,
+    same: bool,
+) -> Result<Arc<Paged, Global>, NoMemory>
+    requires { IsTrue same → last.now.pages.value ≡ model.pages content.now }
+    ensures { IfOk result (λ made. made.value ≡ model.pages content.now) }
+{
+    if same {
+        let shared = Arc::try_clone(&last.pages)?;
+        return Ok(shared);
+    }
+    let pages = pages(alloc, content)?;
+    let made = Arc::new(alloc, Paged::of(alloc, pages)?)?;
+    Ok(made)
+}
+
+// Those of these objects that pages show.
+fn shown_among(alloc: Global, pages: &Paged, among: &[Obj]) -> Result<Vec<Obj>, NoMemory>
+    ensures { IfOk result (λ shown. shown.items ≡ filter (is_in (shown_by pages.now)) among.now) }
+{
+    let mut shown = Vec::new(alloc);
+    for obj in among {
+        if pages.shows(obj) {
+            shown.push(*obj)?;
+        }
+    }
+    Ok(shown)
+}
+
+// Where a walk starts: at the objects that the pages show, of which those that have a look which isn't stale may
+// be left out. Where the pages are the same, only what is stale or had no look is tried.
+fn starts(
+    alloc: Global,
+    last: &Survey,
+    pages: &Paged,
+    looks: &Table<Shown>,
+    stale: &ObjSet,
+    same: bool,
+) -> Result<Vec<Obj>, NoMemory>
+    requires { IsTrue same → HadNoLook (shown_by pages.now) looks.now last.now.unjoined }
+    ensures { IfOk result (λ made. AreStarts (shown_by pages.now) looks.now stale.now made.items) }
+{
+    if !same {
+        let all = objs_shown(alloc, pages.items())?;
+        return Ok(all);
+    }
+    let _looks = looks;
+    let mut among = stale.list(alloc)?;
+    among.extend_from_slice(&last.unjoined.list(alloc)?)?;
+    let shown = shown_among(alloc, pages, &among)?;
+    Ok(shown)
 }
 
 // Those of these objects that aren't in a table once some are dropped from it.
@@ -162,21 +228,23 @@ fn outside_once<T>(
 
 impl Survey {
     /// Nothing is seen.
-    pub(crate) fn none(alloc: Global) -> Survey
-        ensures pages { result.pages ≡ [] }
-        ensures loose { result.loose ≡ [] }
+    pub(crate) fn none(alloc: Global) -> Result<Survey, NoMemory>
+        ensures pages { IfOk result (λ made. made.pages.value ≡ []) }
+        ensures loose { IfOk result (λ made. made.loose ≡ []) }
     {
-        Survey {
-            pages: Listed::of(Vec::new(alloc)),
+        let pages = Paged::of(alloc, Vec::new(alloc))?;
+        Ok(Survey {
+            pages: Arc::new(alloc, pages)?,
             waiting: ObjSet::new(alloc),
             unjoined: ObjSet::new(alloc),
             loose: ObjSet::new(alloc),
-        }
+        })
     }
 
     /// What stands at a content once some nodes and looks are dropped, where what has a look has a node,
-    /// and so has all that it embeds. The cost is that of listing the pages, of a search for each, of what
-    /// is found past the looks that are left, and of what the dropped nodes embed.
+    /// and so has all that it embeds. The cost is that of what is dropped, of what is found past the looks
+    /// that are left, and of what the dropped nodes embed; and of listing the pages and a search for each,
+    /// unless they are said to be the same as the last ones.
     pub(crate) fn of(
         alloc: Global,
         content: &Content,
@@ -185,6 +253,7 @@ impl Survey {
         dropped: &ObjSet,
         looks: &Table<Shown>,
         stale: &ObjSet,
+        same: bool,
     ) -> Result<Survey, NoMemory>
         requires earlier { EmbedsEarlier content.now }
         requires children { ChildrenEarlier nodes.now }
@@ -192,26 +261,29 @@ impl Survey {
             ≡ opened content.now (without (is_in dropped.now) (objs nodes.now)) o }
         requires closed { IsClosed content.now (without (is_in dropped.now) (objs nodes.now))
             (without (is_in stale.now) (objs looks.now)) }
-        ensures pages { IfOk result (λ made. made.pages ≡ model.pages content.now) }
+        requires same { IsTrue same → last.now.pages.value ≡ model.pages content.now }
+        requires roots { IsTrue same →
+            HadNoLook (shown_by (model.pages content.now)) looks.now last.now.unjoined }
+        ensures pages { IfOk result (λ made. made.pages.value ≡ model.pages content.now) }
         ensures waiting { IfOk result (λ made. made.waiting
             ≡ waiting content.now (without (is_in dropped.now) (objs nodes.now))) }
         ensures unjoined { IfOk result (λ made. made.unjoined
             ≡ without (is_in (without (is_in stale.now) (objs looks.now)))
             (found content.now (without (is_in dropped.now) (objs nodes.now)))) }
         ensures loose { IfOk result (λ made.
-            Loosened last.now.pages last.now.loose nodes.now dropped.now made.pages made.loose) }
+            Loosened last.now.pages.value last.now.loose nodes.now dropped.now made.pages.value made.loose) }
     {
-        let pages = pages(alloc, content)?;
-        let roots = objs_shown(alloc, &pages)?;
+        let pages = paged(alloc, content, last, same)?;
+        let roots = starts(alloc, last, &pages, looks, stale, same)?;
         let none = ObjSet::new(alloc);
         let unjoined = reach(alloc, nodes, dropped, looks, stale, &none, &roots)?;
         unjoined.len();
         let list = unjoined.list(alloc)?;
         let waiting = outside_once(alloc, &list, nodes, dropped)?;
         let gone = dropped.list(alloc)?;
-        let loose = loosened(alloc, last, nodes, &gone, &pages)?;
+        let loose = loosened(alloc, last, nodes, &gone, pages.items(), same)?;
         Ok(Survey {
-            pages: Listed::of(pages),
+            pages,
             waiting,
             unjoined,
             loose,

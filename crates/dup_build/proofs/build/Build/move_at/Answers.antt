@@ -2,6 +2,7 @@ use Rattle.std.proofs.Common.{◌≡◌, Bool, true, cond, Some, None, sym, ap, 
 use Rattle.std.specs.List.{All}
 use Rattle.std.specs.Option.{option_map}
 use Rattle.dup_names.specs.Objects.{is_in}
+use Rattle.dup_model.specs.Pages.{pages}
 use Rattle.dup_model.specs.Touched.{touched, affected}
 use Rattle.dup_walk.specs.OverReads.{HasReads}
 use Rattle.dup_build.specs.Build.{IsBuild, once_in, work_in}
@@ -42,3 +43,6 @@ invariant_of-self-2 c =
           (ap (λ l. is_in l o) (sym c.self.invariant.is_done) ∙ h))
           (λ o out. c.drop_all.ensures o (ap (λ l. is_in l o) (c.deref.ensures.value ∙ c.in_ok-gone.ensures) ∙ out)));
     }
+
+pub move_to-requires-clause-pages : goal.move_to-requires-clause-pages
+move_to-requires-clause-pages c = λ same. ap (λ (b : Built). pages b.works.content) c.self.view_is ∙ c.requires.pages same

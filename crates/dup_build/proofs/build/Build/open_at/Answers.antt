@@ -1,16 +1,19 @@
-use Rattle.std.proofs.Common.{◌≡◌, Bool, true, false, cond, List, [], refl, sym, ap, ◌∙◌, subst}
+use Rattle.std.proofs.Common.{length, ◌≡◌, Bool, true, false, cond, List, [], refl, sym, ap, ◌∙◌, subst}
 use Rattle.std.specs.List.{All}
 use Rattle.dup_names.specs.declared.value.Look.{Look}
 use Rattle.dup_names.specs.Objects.{is_in}
+use Rattle.dup_model.specs.Pages.{pages}
 use Rattle.dup_model.specs.Touched.{without, touched, affected}
 use Rattle.dup_walk.specs.OverReads.{HasReads}
 use Rattle.dup_build.specs.Build.{IsBuild, work_in}
 use Rattle.dup_build.specs.Paths.{IsCurrent, looks_in}
 use Rattle.dup_build.specs.Targets.{pages_in}
-use Rattle.dup_build.proofs.Builds.{closed_from}
+use Rattle.dup_build.proofs.Builds.{closed_from, opened_done}
 use Rattle.dup_build.proofs.Showing.{current_moved, current_opened}
 use Rattle.dup_build.specs.Built.{Built, done_in, looked_in}
-use Rattle.dup_build.specs.Stocked.{Stocked}
+use Rattle.dup_build.specs.Stocked.{Stocked, waiting_in}
+use Rattle.dup_model.specs.Found.{waiting}
+use Rattle.dup_machine.specs.World.Begun.{Opened}
 use Rattle.dup_build.proofs.Graphs.{reads_moved}
 use Rattle.dup_build.proofs.build.Build.open_at.Goals as goal
 
@@ -45,3 +48,13 @@ invariant_of-self-2 c =
           (ap (λ l. is_in l o) (sym c.self.invariant.is_done) ∙ h))
           (λ o out. c.drop_all.ensures o (ap (λ l. is_in l o) (c.deref.ensures.value ∙ c.in_ok-gone.ensures) ∙ out)));
     }
+
+pub move_to-requires-clause-pages : goal.move_to-requires-clause-pages
+move_to-requires-clause-pages c = λ same. ap (λ (b : Built). pages b.works.content) c.self.view_is ∙ c.requires.pages same
+
+pub returns-clause-told : goal.returns-clause-told
+returns-clause-told c =
+    ap (Opened c.args.version) (c.waiting-waiting.ensures ∙ ap (λ (s : Stocked). length (waiting_in s)) c.in_ok-move_to.ensures.ok
+    ∙ ap (λ l. length (waiting c.args.content.now (without (touched c.self.inside.stock.content c.args.content.now) l))) c.self.invariant.is_done
+    ∙ ap (λ (b : Built). length (waiting c.args.content.now (without (touched b.works.content c.args.content.now) (done_in b.works)))) c.self.view_is
+    ∙ ap (λ l. length (waiting c.args.content.now l)) (opened_done c.args.version c.args.content.now c.args.self.now.works c.requires.idle))

@@ -19,16 +19,16 @@ unheld-requires-clause-children c = has_children c.self.inside.content c.self.in
     (subst (λ (s : Stocked). HasReads s.content s.done c.args.graph.now) (sym c.self.view_is) c.requires.reads)
 
 pub unheld-requires-clause-held : goal.unheld-requires-clause-held
-unheld-requires-clause-held c = subst (λ ps. HoldsBut (shown_by ps) c.self.inside.nodes [] c.self.inside.progress.loose) (sym c.items.ensures) c.self.invariant.held
+unheld-requires-clause-held c = subst (λ ps. HoldsBut (shown_by ps) c.self.inside.nodes [] c.self.inside.progress.loose) (sym c.deref.ensures) c.self.invariant.held
 
 pub invariant_of-self : goal.invariant_of-self
 invariant_of-self c =
     let calm : waiting c.self.inside.content (objs c.self.inside.nodes) ≡ [] = ap waiting_in c.self.view_is ∙ c.requires.calm in
     let joined : without (is_in (objs c.self.inside.looks)) (found c.self.inside.content (objs c.self.inside.nodes)) ≡ [] = ap unjoined_in c.self.view_is ∙ c.requires.joined in
-    let are_gone : AreGone (shown_by c.self.inside.progress.pages) c.self.inside.nodes c.in_ok-gone.gone = subst (λ ps. AreGone (shown_by ps) c.self.inside.nodes c.in_ok-gone.gone) c.items.ensures c.in_ok-gone.ensures.gone in
-    let holds : HoldsBut (shown_by c.self.inside.progress.pages) c.self.inside.nodes c.in_ok-gone.gone [] = subst (λ ps. HoldsBut (shown_by ps) c.self.inside.nodes c.in_ok-gone.gone []) c.items.ensures c.in_ok-gone.ensures.held in
-    let same : c.deref.result.now ≡ c.in_ok-gone.gone = c.deref.ensures.value ∙ c.in_ok-gone-2.ensures in
-    let same_too : c.deref-2.result.now ≡ c.in_ok-gone.gone = c.deref-2.ensures.value ∙ c.in_ok-gone-2.ensures in
+    let are_gone : AreGone (shown_by c.self.inside.progress.pages.value) c.self.inside.nodes c.in_ok-gone.gone = subst (λ ps. AreGone (shown_by ps) c.self.inside.nodes c.in_ok-gone.gone) c.deref.ensures c.in_ok-gone.ensures.gone in
+    let holds : HoldsBut (shown_by c.self.inside.progress.pages.value) c.self.inside.nodes c.in_ok-gone.gone [] = subst (λ ps. HoldsBut (shown_by ps) c.self.inside.nodes c.in_ok-gone.gone []) c.deref.ensures c.in_ok-gone.ensures.held in
+    let same : c.deref-2.result.now ≡ c.in_ok-gone.gone = c.deref-2.ensures.value ∙ c.in_ok-gone-2.ensures in
+    let same_too : c.deref-3.result.now ≡ c.in_ok-gone.gone = c.deref-3.ensures.value ∙ c.in_ok-gone-2.ensures in
     let fewer : objs c.remove_all.new.self ≡ without (is_in c.in_ok-gone.gone) (objs c.self.inside.nodes) = c.remove_all.ensures.objs ∙ ap (λ l. without (is_in l) (objs c.self.inside.nodes)) same in
     forgotten c.self.inside.content c.site_known.ensures.earlier c.self.inside.nodes c.self.inside.looks c.self.inside.progress c.self.invariant calm joined c.in_ok-gone.gone are_gone holds
     c.remove_all.new.self c.remove_all-2.new.self
@@ -44,10 +44,10 @@ pub returns-clause-ok : goal.returns-clause-ok
 returns-clause-ok c =
     let calm : waiting c.self.inside.content (objs c.self.inside.nodes) ≡ [] = ap waiting_in c.self.view_is ∙ c.requires.calm in
     let joined : without (is_in (objs c.self.inside.looks)) (found c.self.inside.content (objs c.self.inside.nodes)) ≡ [] = ap unjoined_in c.self.view_is ∙ c.requires.joined in
-    let are_gone : AreGone (shown_by c.self.inside.progress.pages) c.self.inside.nodes c.in_ok-gone.gone = subst (λ ps. AreGone (shown_by ps) c.self.inside.nodes c.in_ok-gone.gone) c.items.ensures c.in_ok-gone.ensures.gone in
-    let holds : HoldsBut (shown_by c.self.inside.progress.pages) c.self.inside.nodes c.in_ok-gone.gone [] = subst (λ ps. HoldsBut (shown_by ps) c.self.inside.nodes c.in_ok-gone.gone []) c.items.ensures c.in_ok-gone.ensures.held in
-    let same : c.deref.result.now ≡ c.in_ok-gone.gone = c.deref.ensures.value ∙ c.in_ok-gone-2.ensures in
-    let same_too : c.deref-2.result.now ≡ c.in_ok-gone.gone = c.deref-2.ensures.value ∙ c.in_ok-gone-2.ensures in
+    let are_gone : AreGone (shown_by c.self.inside.progress.pages.value) c.self.inside.nodes c.in_ok-gone.gone = subst (λ ps. AreGone (shown_by ps) c.self.inside.nodes c.in_ok-gone.gone) c.deref.ensures c.in_ok-gone.ensures.gone in
+    let holds : HoldsBut (shown_by c.self.inside.progress.pages.value) c.self.inside.nodes c.in_ok-gone.gone [] = subst (λ ps. HoldsBut (shown_by ps) c.self.inside.nodes c.in_ok-gone.gone []) c.deref.ensures c.in_ok-gone.ensures.held in
+    let same : c.deref-2.result.now ≡ c.in_ok-gone.gone = c.deref-2.ensures.value ∙ c.in_ok-gone-2.ensures in
+    let same_too : c.deref-3.result.now ≡ c.in_ok-gone.gone = c.deref-3.ensures.value ∙ c.in_ok-gone-2.ensures in
     let done : objs c.remove_all.new.self ≡ live c.self.inside.content = c.remove_all.ensures.objs ∙ ap (λ l. without (is_in l) (objs c.self.inside.nodes)) same
     ∙ done_left c.self.inside.content c.site_known.ensures.earlier c.self.inside.nodes c.self.inside.looks c.self.inside.progress c.self.invariant calm joined c.in_ok-gone.gone are_gone holds c.len.ensures.rising in
     let looked : objs c.remove_all-2.new.self ≡ live c.self.inside.content = c.remove_all-2.ensures.objs ∙ ap (λ l. without (is_in l) (objs c.self.inside.looks)) same_too
@@ -59,8 +59,8 @@ pub returns-clause-gone : goal.returns-clause-gone
 returns-clause-gone c = λ o h.
     let calm : waiting c.self.inside.content (objs c.self.inside.nodes) ≡ [] = ap waiting_in c.self.view_is ∙ c.requires.calm in
     let joined : without (is_in (objs c.self.inside.looks)) (found c.self.inside.content (objs c.self.inside.nodes)) ≡ [] = ap unjoined_in c.self.view_is ∙ c.requires.joined in
-    let are_gone : AreGone (shown_by c.self.inside.progress.pages) c.self.inside.nodes c.in_ok-gone.gone = subst (λ ps. AreGone (shown_by ps) c.self.inside.nodes c.in_ok-gone.gone) c.items.ensures c.in_ok-gone.ensures.gone in
-    let holds : HoldsBut (shown_by c.self.inside.progress.pages) c.self.inside.nodes c.in_ok-gone.gone [] = subst (λ ps. HoldsBut (shown_by ps) c.self.inside.nodes c.in_ok-gone.gone []) c.items.ensures c.in_ok-gone.ensures.held in
+    let are_gone : AreGone (shown_by c.self.inside.progress.pages.value) c.self.inside.nodes c.in_ok-gone.gone = subst (λ ps. AreGone (shown_by ps) c.self.inside.nodes c.in_ok-gone.gone) c.deref.ensures c.in_ok-gone.ensures.gone in
+    let holds : HoldsBut (shown_by c.self.inside.progress.pages.value) c.self.inside.nodes c.in_ok-gone.gone [] = subst (λ ps. HoldsBut (shown_by ps) c.self.inside.nodes c.in_ok-gone.gone []) c.deref.ensures c.in_ok-gone.ensures.held in
     ap (λ (s : Stocked). is_in (found s.content s.done) o) (sym c.self.view_is)
     ∙ gone_unfound c.self.inside.content c.site_known.ensures.earlier c.self.inside.nodes c.self.inside.looks c.self.inside.progress c.self.invariant calm joined c.in_ok-gone.gone are_gone holds o
     (ap (λ l. is_in l o) (sym c.in_ok-gone-2.ensures) ∙ h)

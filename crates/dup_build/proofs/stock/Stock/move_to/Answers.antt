@@ -3,10 +3,12 @@ use Rattle.dup_model.specs.Content.{Content}
 use Rattle.dup_names.specs.Objects.{is_in}
 use Rattle.dup_model.specs.Touched.{without, touched, affected}
 use Rattle.dup_sets.specs.Entries.{at, objs}
+use Rattle.dup_model.specs.Pages.{pages}
+use Rattle.dup_build.specs.Loose.{shown_by, HadNoLook}
 use Rattle.dup_build.specs.Stock.{IsStock}
 use Rattle.dup_build.specs.Stocked.{Stocked}
 use Rattle.dup_build.proofs.Stocking.{children_earlier}
-use Rattle.dup_build.proofs.Moving.{Left, closed_moved, left_from, below_moved, moved_stock, done_moved, looked_moved}
+use Rattle.dup_build.proofs.Moving.{Left, closed_moved, had_no_look, left_from, below_moved, moved_stock, done_moved, looked_moved}
 use Rattle.dup_build.proofs.stock.Stock.move_to.Goals as goal
 
 pub of-requires-clause-children : goal.of-requires-clause-children
@@ -23,6 +25,14 @@ of-requires-clause-closed c =
     let e : Left c.self.inside.content c.args.content.now c.self.inside.nodes c.self.inside.looks c.args.dropped.now c.args.stale.now =
     left_from _ _ _ _ _ _ _ c.self.view_is c.requires.frame c.requires.dropped c.requires.stale in
     closed_moved c.self.inside.content c.args.content.now c.self.inside.nodes c.self.inside.looks c.args.dropped.now c.args.stale.now e.drops e.stales e.frames c.site_known.ensures.earlier c.self.invariant.closed
+
+pub of-requires-clause-same : goal.of-requires-clause-same
+of-requires-clause-same c = λ same. c.self.invariant.pages ∙ ap (λ (s : Stocked). pages s.content) c.self.view_is ∙ c.requires.pages same
+
+pub of-requires-clause-roots : goal.of-requires-clause-roots
+of-requires-clause-roots c = λ same.
+    subst (λ ps. HadNoLook (shown_by ps) c.self.inside.looks c.self.inside.progress.unjoined) (ap (λ (s : Stocked). pages s.content) c.self.view_is ∙ c.requires.pages same)
+    (had_no_look c.self.inside.content c.self.inside.nodes c.self.inside.looks c.self.inside.progress c.site_known.ensures.earlier c.self.invariant)
 
 pub invariant_of-self : goal.invariant_of-self
 invariant_of-self c =

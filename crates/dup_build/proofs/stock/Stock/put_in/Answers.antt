@@ -35,7 +35,7 @@ invariant_of-self-in_default c =
     c.items.ensures ∙ c.requires.waiting ∙ ap (λ (s : Stocked). without (is_in s.done) c.args.news.now.unjoined) (sym c.self.view_is) in
     kept c.self.inside.content c.self.inside.nodes c.self.inside.looks c.self.inside.progress e.stock e.earlier c.args.obj c.args.node e.node e.waits c.args.news.now.unjoined e.each
     c.requires.keyed c.add.new.self (record { pages = c.grow.new.self.pages; waiting = c.remove.new.self; unjoined = c.grow.new.self.unjoined; loose = c.grow.new.self.loose })
-    c.in_ok-add.ensures.at c.in_ok-add.ensures.objs c.in_default.ensures.pages c.in_default.ensures.loose
+    c.in_ok-add.ensures.at c.in_ok-add.ensures.objs (ap (λ p. p.value) c.in_default.ensures.pages) c.in_default.ensures.loose
     (c.remove.ensures ∙ ap (without (same_obj c.args.obj)) (c.in_default.ensures.waiting ∙ ap (λ l. in_order obj_cmp (l ++ c.self.inside.progress.waiting)) waiting))
     (c.in_default.ensures.unjoined ∙ ap (λ l. in_order obj_cmp (l ++ c.self.inside.progress.unjoined)) c.items-2.ensures)
 

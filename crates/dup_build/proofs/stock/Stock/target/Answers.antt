@@ -10,7 +10,7 @@ use Rattle.dup_build.proofs.stock.Stock.target.Goals as goal
 pub look-requires : goal.look-requires
 look-requires c =
     let content : c.self.inside.content ≡ c.args.self.now.content = ap (λ (s : Stocked). s.content) c.self.view_is in
-    let all : c.items-pages.result.now ≡ model.pages c.self.inside.content = c.items-pages.ensures ∙ c.self.invariant.pages in
+    let all : c.items-pages.result.now ≡ model.pages c.self.inside.content = c.items-pages.ensures ∙ c.deref.ensures ∙ c.self.invariant.pages in
     all_passed (is_in c.args.self.now.looked) (found c.args.self.now.content c.args.self.now.done) c.requires c.page-item.result.1
     (ap (λ (x : Content). is_in (found x c.args.self.now.done) c.page-item.result.1) (sym content)
     ∙ page_found c.self.inside.content c.site_known.ensures.earlier c.args.self.now.done c.items-pages.result.now all c.loop-page.page-index c.page-item.result c.loop-page-test.true c.page-item.is)
