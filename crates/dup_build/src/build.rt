@@ -493,8 +493,8 @@ impl Build {
     /// What closing the open work comes to, where all that is found has a look; else what `finish` answers.
     /// Nothing is changed, and a work that can't be closed takes no memory.
     ///
-    /// The cost is that of listing the pages, and of one walk over them and the last target's, side by side;
-    /// no bytes are compared or copied.
+    /// The cost is that of a look-up for each page, and of one walk over them and the last target's, side by
+    /// side; no bytes are compared or copied.
     pub fn closing(&self, alloc: Global) -> Result<Result<Closing, Finish>, NoMemory>
         ensures closing { IfOk result (λ told. IfOk told (IsClosing self.now)) }
         ensures told { IfOk result (λ told. IfErr told (λ finish. finish_told finish
@@ -519,7 +519,8 @@ impl Build {
 
     /// Closes the open work, given what this comes to.
     ///
-    /// The cost is that of one walk over what is kept.
+    /// The cost is that of a search for what the work joined, and for what may have come loose since the last
+    /// target, with the objects that embed it.
     pub fn close(&mut self, alloc: Global, closing: Closing) -> Result<Finish, NoMemory>
         requires { IsClosing self.old closing }
         ensures told { IfOk result (λ told. finish_told told ≡ (built.finished self.old.works).0) }
@@ -549,8 +550,9 @@ impl Build {
     /// Closes the open work, where all that is found has a look: its looks are the target. A report
     /// tells the touched paths in path order, away from which the target is as it was.
     ///
-    /// The cost is that of listing the pages, of one walk over them and the last target's, side by side,
-    /// and of one over what is kept; no bytes are compared or copied.
+    /// The cost is that of a look-up for each page, of one walk over them and the last target's, side by side,
+    /// and of a search for what the work joined and for what may have come loose since the last target; no
+    /// bytes are compared or copied.
     pub fn finish(&mut self, alloc: Global) -> Result<Finish, NoMemory>
         ensures told { IfOk result (λ told. finish_told told ≡ (built.finished self.old.works).0) }
         ensures touched { IfOk result (λ told. ForTouched told

@@ -22,4 +22,6 @@ pub use build::Build;
 pub use job::Job;
 
 #[cfg(test)]
+mod row_tests;
+#[cfg(test)]
 mod tests;

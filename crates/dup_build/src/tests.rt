@@ -12,14 +12,14 @@ use std::test::Fail;
 use std::thread::Threads;
 
 // A row: its kind, its key, and the texts of its fields.
-type Row<'a> = (&'a str, &'a str, &'a [(&'a str, &'a str)]);
+pub(crate) type Row<'a> = (&'a str, &'a str, &'a [(&'a str, &'a str)]);
 
-fn name(text: &str) -> Result<Name, Fail> {
+pub(crate) fn name(text: &str) -> Result<Name, Fail> {
     let name = Name::read(text.as_bytes()).ok_or("a name")?;
     Ok(name)
 }
 
-fn key(text: &str) -> Result<Key, Fail> {
+pub(crate) fn key(text: &str) -> Result<Key, Fail> {
     let key = Key::read(text.as_bytes()).ok_or("a key")?;
     Ok(key)
 }
@@ -34,7 +34,7 @@ fn put(alloc: Global, row: &Row) -> Result<Change, Fail> {
     Ok(change)
 }
 
-fn commit(alloc: Global, rows: &[Row]) -> Result<Commit, Fail> {
+pub(crate) fn commit(alloc: Global, rows: &[Row]) -> Result<Commit, Fail> {
     let mut changes = Vec::new(alloc);
     for row in rows {
         changes.push(put(alloc, row)?)?;
@@ -44,7 +44,7 @@ fn commit(alloc: Global, rows: &[Row]) -> Result<Commit, Fail> {
 }
 
 // A build of a site, and the site's content without rows.
-fn start(alloc: Global, site: &[u8]) -> Result<(Build, Content), Fail>
+pub(crate) fn start(alloc: Global, site: &[u8]) -> Result<(Build, Content), Fail>
     ensures { IfOk result (λ made. made.0.works.content ≡ made.1) }
 {
     let site = read_site(alloc, site).ok().ok_or("a good site")?;
@@ -54,7 +54,28 @@ fn start(alloc: Global, site: &[u8]) -> Result<(Build, Content), Fail>
     Ok((build, content))
 }
 
-// Begins a work after one more commit; the content then, and how many wait.
+// Begins a work after this commit; the content then, and how many wait.
+pub(crate) fn begin_commit(
+    alloc: Global,
+    build: &mut Build,
+    content: &Content,
+    version: u64,
+    commit: Commit,
+) -> Result<(Content, u64), Fail>
+    requires { build.old.works.content ≡ content.now }
+    ensures { IfOk result (λ begun. build.new.works.content ≡ begun.0) }
+{
+    let new = apply(alloc, content, &commit, 100)?;
+    let mut commits = Vec::new(alloc);
+    commits.push(Arc::new(alloc, commit)?)?;
+    let begun = build.begin(alloc, version, &new, &commits)?;
+    let Begun::Work { waiting, .. } = begun else {
+        return Err(Fail::from("no work"));
+    };
+    Ok((new, waiting))
+}
+
+// The same after these rows are put.
 fn begin(
     alloc: Global,
     build: &mut Build,
@@ -66,14 +87,8 @@ fn begin(
     ensures { IfOk result (λ begun. build.new.works.content ≡ begun.0) }
 {
     let commit = commit(alloc, rows)?;
-    let new = apply(alloc, content, &commit, 100)?;
-    let mut commits = Vec::new(alloc);
-    commits.push(Arc::new(alloc, commit)?)?;
-    let begun = build.begin(alloc, version, &new, &commits)?;
-    let Begun::Work { waiting, .. } = begun else {
-        return Err(Fail::from("no work"));
-    };
-    Ok((new, waiting))
+    let begun = begin_commit(alloc, build, content, version, commit)?;
+    Ok(begun)
 }
 
 // Hands, expands and puts one object, where one waits.
@@ -108,7 +123,11 @@ fn expand_all(alloc: Global, build: &mut Build, meter: &mut Meter, times: u64) -
 }
 
 // How many the next level has, none where no level is left.
-fn level(rt: &(impl Threads + Sync), alloc: Global, build: &mut Build) -> Result<u64, Fail>
+pub(crate) fn level(
+    rt: &(impl Threads + Sync),
+    alloc: Global,
+    build: &mut Build,
+) -> Result<u64, Fail>
     ensures { build.new.works.content ≡ build.old.works.content }
 {
     match build.join(rt, alloc)? {
@@ -138,9 +157,9 @@ fn finish(alloc: Global, build: &mut Build) -> Result<(u64, u64, u64, usize), Fa
 
 // A work after one more commit: how many wait, are expanded, are joined at the first level and at the
 // second, and what it reports.
-type Told = (u64, u64, u64, u64, u64, u64, u64, usize);
+pub(crate) type Told = (u64, u64, u64, u64, u64, u64, u64, usize);
 
-fn work(
+pub(crate) fn work(
     rt: &(impl Threads + Sync),
     alloc: Global,
     build: &mut Build,
