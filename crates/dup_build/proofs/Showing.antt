@@ -1,9 +1,14 @@
 -- The looks of the last target that are still its objects' own.
-use Rattle.std.proofs.Common.{◌≡◌, Bool, true, false, not, cond, ◌||◌, ◌&&◌, List, [], ◌∷◌, ◌++◌, map, Option, Some, None, subst, refl, sym, ap, ◌∙◌}
+use Rattle.std.proofs.Common.{◌≡◌, ℕ, ◌<◌, arith, length, get_or, Bool, true, false, not, cond, ◌||◌, ◌&&◌, List, [], ◌∷◌, ◌++◌, map, Option, Some, None, subst, refl, sym, ap, ◌∙◌}
 use Rattle.std.specs.List.{All}
 use Rattle.std.specs.FinMap as fin
+use Rattle.std.specs.declared.alloc.Global.{Global}
+use Rattle.std.specs.declared.sync.Arc.{Arc}
+use Rattle.std.proofs.lemmas.List.{length-map}
+use Rattle.std.proofs.Math.ListN.{get_or-map}
+use Rattle.dup_build.specs.Targets.{looks_by_path}
 use Rattle.std.specs.Ordering.{eq_by_cmp}
-use Rattle.std.proofs.lemmas.List.Elements.{All-cons, All-head, All-map, All-nil, All-tail, All-weaker}
+use Rattle.std.proofs.lemmas.List.Elements.{All-cons, All-get_or, All-head, All-map, All-nil, All-tail, All-weaker}
 use Rattle.std.proofs.lemmas.List.Folds.{list_any-append}
 use Rattle.std.proofs.lemmas.Bool.{true≢false, or_left}
 use Rattle.std.proofs.lemmas.Option.{none-some, same_Some}
@@ -36,6 +41,15 @@ current_moved a b frames looked once ls all =
     let parts : (is_in looked l.obj ≡ true) × (affected a b l.obj ≡ false) = without_parts (affected a b) looked l.obj inside in
     is parts.0 out ∙ unaffected_same a b l.obj frames parts.1)
     ls all
+
+-- the look at a place of the last target
+pub current_at : (c : Content) (looked once : List Obj) (last : List (Path × Arc Look Global)) (i : ℕ) (s : Path × Arc Look Global) → i < length last → s ≡ get_or last i s →
+    All (IsCurrent c looked once) (looks_in (looks_by_path last)) → IsCurrent c looked once s.1.value
+current_at c looked once last i s below at_i all =
+    let unshared : Path × Arc Look Global → Path × Look = λ p. (p.0, p.1.value) in
+    subst (IsCurrent c looked once)
+    (get_or-map (λ (p : Path × Look). p.1) (looks_by_path last) i (unshared s) ∙ ap (λ (p : Path × Look). p.1) (get_or-map unshared last i s) ∙ ap (λ (p : Path × Arc Look Global). p.1.value) (sym at_i))
+    (All-get_or (IsCurrent c looked once) (looks_in (looks_by_path last)) i s.1.value (omega (arith, below, length-map (looks_by_path last) (λ (p : Path × Look). p.1), length-map last unshared)) all)
 
 -- where a work opens, none is joined
 pub current_opened : (c : Content) (looked once : List Obj) (ls : List Look) → once ≡ [] → All (IsCurrent c looked []) ls → All (IsCurrent c looked once) ls

@@ -476,14 +476,10 @@ impl Build {
         requires joined { built.unjoined_by self.now.works.content self.now.works.work ≡ [] }
         ensures { IfOk result (IsClosing self.now) }
     {
-        let target = self.stock.target(alloc, self.version)?;
+        let last = pages_of(&self.target);
+        let target = self.stock.target(alloc, self.version, last, &self.once)?;
         self.stock.content();
-        let touched = touched_paths(
-            alloc,
-            pages_of(&self.target),
-            target.pages.items(),
-            &self.once,
-        )?;
+        let touched = touched_paths(alloc, last, target.pages.items(), &self.once)?;
         Ok(Closing {
             target,
             touched: Listed::of(touched),
@@ -493,8 +489,8 @@ impl Build {
     /// What closing the open work comes to, where all that is found has a look; else what `finish` answers.
     /// Nothing is changed, and a work that can't be closed takes no memory.
     ///
-    /// The cost is that of a look-up for each page, and of one walk over them and the last target's, side by
-    /// side; no bytes are compared or copied.
+    /// The cost is that of two walks over the pages and the last target's, side by side, and of a search
+    /// for each that isn't as it was; no bytes are compared or copied.
     pub fn closing(&self, alloc: Global) -> Result<Result<Closing, Finish>, NoMemory>
         ensures closing { IfOk result (λ told. IfOk told (IsClosing self.now)) }
         ensures told { IfOk result (λ told. IfErr told (λ finish. finish_told finish
@@ -550,8 +546,8 @@ impl Build {
     /// Closes the open work, where all that is found has a look: its looks are the target. A report
     /// tells the touched paths in path order, away from which the target is as it was.
     ///
-    /// The cost is that of a look-up for each page, of one walk over them and the last target's, side by side,
-    /// and of a search for what the work joined and for what may have come loose since the last target; no
+    /// The cost is that of two walks over the pages and the last target's, side by side, and of a search for
+    /// each that isn't as it was, for what the work joined and for what may have come loose since the last target; no
     /// bytes are compared or copied.
     pub fn finish(&mut self, alloc: Global) -> Result<Finish, NoMemory>
         ensures told { IfOk result (λ told. finish_told told ≡ (built.finished self.old.works).0) }

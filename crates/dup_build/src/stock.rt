@@ -15,14 +15,15 @@ ghost use Rattle.dup_model.specs.Touched.{without, touched, affected};
 ghost use Rattle.dup_model.specs.Found.{found, waiting};
 ghost use Rattle.dup_machine.specs.Works.{next_of};
 ghost use Rattle.dup_model.specs.Expansions.{stale as stale_note};
-ghost use Rattle.std.specs.List.{filter, list_all, list_any};
+ghost use Rattle.std.specs.List.{All, filter, list_all, list_any};
 ghost use Rattle.dup_model.specs.Looks.{look};
 ghost use Rattle.dup_model.specs.Skeletons.{embeds};
 ghost use Rattle.dup_join.specs.Jobs.{look_of};
 ghost use Rattle.dup_model.specs.Pages.{live, page_looks, pages};
 ghost use Rattle.dup_sets.specs.Entries.{objs};
-ghost use Rattle.dup_build.specs.Targets.{looks_of};
+ghost use Rattle.dup_build.specs.Targets.{looks_by_path, looks_of};
 ghost use Rattle.dup_build.specs.Looked.{look_at, last_look};
+ghost use Rattle.dup_build.specs.Paths.{looks_in, IsCurrent};
 ghost use Rattle.dup_build.specs.Nodes.{IsNode};
 ghost use Rattle.dup_machine.specs.Closed.{IsClosed};
 ghost use Rattle.dup_machine.specs.Reached.{Reached, opened};
@@ -32,6 +33,7 @@ ghost use Rattle.dup_walk.specs.OverReads.{HasReads};
 use crate::job::Job;
 use crate::loose::unheld;
 use crate::node::{Node, Shown, node_children};
+use crate::paths::Page;
 use crate::reach::reach;
 use crate::survey::Survey;
 use crate::values::first_stale;
@@ -527,18 +529,52 @@ impl Stock {
         self.nodes.len() - count_in(once, &self.nodes)
     }
 
+    // The look of a page's object: that of the last target at this place, where it is the same object, which the
+    // work didn't join; else the kept one.
+    fn page_look(
+        &self,
+        obj: &Obj,
+        last: &[Page],
+        at: usize,
+        once: &ObjSet,
+    ) -> Result<Arc<Look, Global>, NoMemory>
+        requires looked { IsTrue (is_in self.now.looked obj.now) }
+        requires shown { All (IsCurrent self.now.content self.now.looked once.now)
+            (looks_in (looks_by_path last.now)) }
+        ensures { IfOk result (λ made. made.value ≡ look self.now.content obj.now) }
+    {
+        if at < last.len() {
+            let shown = &last[at].1;
+            if shown.obj == *obj && !once.contains(obj) {
+                let look = Arc::try_clone(shown)?;
+                return Ok(look);
+            }
+        }
+        let look = self.look(obj)?;
+        Ok(look)
+    }
+
     /// The target of a version: the look of each page in path order, where all that is found has a
-    /// look.
-    pub(crate) fn target(&self, alloc: Global, version: u64) -> Result<Target, NoMemory>
-        requires { unjoined_in self.now ≡ [] }
+    /// look. The looks of the last target are taken where they are still those of their objects. The cost is
+    /// that of a comparison for each page, and of a search where it isn't as it was.
+    pub(crate) fn target(
+        &self,
+        alloc: Global,
+        version: u64,
+        last: &[Page],
+        once: &ObjSet,
+    ) -> Result<Target, NoMemory>
+        requires joined { unjoined_in self.now ≡ [] }
+        requires shown { All (IsCurrent self.now.content self.now.looked once.now)
+            (looks_in (looks_by_path last.now)) }
         ensures version { IfOk result (λ made. made.version ≡ version) }
         ensures looks { IfOk result (λ made. looks_of made ≡ page_looks self.now.content) }
     {
         site_known(&self.content);
         let pages = self.progress.pages.items();
         let mut out = Vec::with_capacity(alloc, pages.len())?;
-        for page in pages {
-            let look = self.look(&page.1)?;
+        for (at, page) in pages.iter().enumerate() {
+            let look = self.page_look(&page.1, last, at, once)?;
             out.push((page.0, look))?;
         }
         Ok(Target {
