@@ -1,0 +1,5 @@
+pub mod Holding
+pub mod Noting
+pub mod Renewing
+pub mod Tables
+pub mod Touching
