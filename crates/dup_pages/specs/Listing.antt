@@ -5,12 +5,11 @@ use Rattle.std.specs.BTreeMap.{insert_entry}
 use Rattle.dup_names.specs.Order.{text_cmp}
 use Rattle.dup_names.specs.Words.{Word, Path}
 use Rattle.dup_names.specs.declared.object.Obj.{Obj}
-use Rattle.dup_model.specs.Content.{Table}
 
--- the pages that a family of a template has for these rows
-abbrev pub pages_for : Word → ℕ → Table → List (Path × Obj)
-pages_for prefix template rows =
-    map (λ key. (prefix ++ 47 ∷ key, record { template = template; key = Some key })) (map (λ e. e.0) rows)
+-- the pages that a family of a template has for rows with these keys
+abbrev pub pages_for : Word → ℕ → List Word → List (Path × Obj)
+pages_for prefix template keys =
+    map (λ key. (prefix ++ 47 ∷ key, record { template = template; key = Some key })) keys
 
 -- a page at its place in the order of paths, or instead of the one that its path had
 abbrev pub with_page : List (Path × Obj) → Path × Obj → List (Path × Obj)

@@ -1,13 +1,14 @@
 // The pages of a content.
-ghost use Rattle.std.specs.Prelude.{◌≡◌, IfOk, OnOk, map};
+ghost use Rattle.std.specs.Prelude.{◌≡◌, IfOk, OnOk};
 ghost use Rattle.std.specs.Option.{option_map};
 ghost use Rattle.dup_template.specs.declared.site.PageRule.TheVariants.{Family};
 ghost use Rattle.dup_model.specs.Names.{kind_at, kind_of};
 ghost use Rattle.dup_model.specs.Pages.{keys_of, pages, pages_of};
 ghost use Rattle.dup_pages.specs.Listing.{pages_for, with_pages};
 
-use dup_names::{Name, NoMemory, Obj, Path};
-use dup_records::{Content, Entry};
+use dup_lists::Listed;
+use dup_names::{Key, KeyList, Name, NoMemory, Obj, Path};
+use dup_records::Content;
 use dup_template::{PageRule, Prefix, row_path};
 use std::alloc::Global;
 use std::collections::BTreeMap;
@@ -15,17 +16,12 @@ use std::collections::BTreeMap;
 type Pages = BTreeMap<Path, Obj>;
 
 // Puts a page for each row, under a prefix.
-fn put_rows(
-    made: &mut Pages,
-    prefix: &Prefix,
-    template: u16,
-    rows: &[Entry],
-) -> Result<(), NoMemory>
+fn put_rows(made: &mut Pages, prefix: &Prefix, template: u16, keys: &[Key]) -> Result<(), NoMemory>
     ensures { OnOk result (made.new.entries
-        ≡ with_pages made.old.entries (pages_for prefix.now template rows.now)) }
+        ≡ with_pages made.old.entries (pages_for prefix.now template keys.now)) }
 {
-    for row in rows {
-        let key = row.0;
+    for key in keys {
+        let key = *key;
         let obj = Obj {
             template,
             key: Some(key),
@@ -35,18 +31,19 @@ fn put_rows(
     Ok(())
 }
 
-// The rows of a template's kind, none where it is of none.
-fn rows_shown(content: &Content, template: u16) -> &[Entry]
-    ensures { map (λ e. e.0) result.now
-        ≡ keys_of content.now (option_map (kind_at content.now.frame) (kind_of content.now.frame template)) }
+// The keys of the rows of a template's kind, none where it is of none.
+fn keys_shown(alloc: Global, content: &Content, template: u16) -> Result<KeyList, NoMemory>
+    ensures { IfOk result (λ made. made
+        ≡ keys_of content.now (option_map (kind_at content.now.frame) (kind_of content.now.frame template))) }
 {
     match content.kind_number_of(template) {
-        None => &[],
-        Some(kind) => content.rows(kind),
+        None => Ok(Listed::of(Vec::new(alloc))),
+        Some(kind) => content.keys(alloc, kind),
     }
 }
 
 fn put_family(
+    alloc: Global,
     made: &mut Pages,
     content: &Content,
     prefix: &Prefix,
@@ -56,12 +53,17 @@ fn put_family(
         ≡ with_pages made.old.entries (pages_of content.now (Family prefix.now template.now))) }
 {
     let number = content.template_number(template);
-    let rows = rows_shown(content, number);
-    put_rows(made, prefix, number, rows)
+    let keys = keys_shown(alloc, content, number)?;
+    put_rows(made, prefix, number, keys.items())
 }
 
 // Puts the pages of a declaration.
-fn put_declared(made: &mut Pages, content: &Content, rule: &PageRule) -> Result<(), NoMemory>
+fn put_declared(
+    alloc: Global,
+    made: &mut Pages,
+    content: &Content,
+    rule: &PageRule,
+) -> Result<(), NoMemory>
     ensures { OnOk result (made.new.entries ≡ with_pages made.old.entries (pages_of content.now rule.now)) }
 {
     match rule {
@@ -71,7 +73,9 @@ fn put_declared(made: &mut Pages, content: &Content, rule: &PageRule) -> Result<
             made.insert(*path, Obj { template, key })?;
             Ok(())
         }
-        PageRule::Family { prefix, template } => put_family(made, content, prefix, template),
+        PageRule::Family { prefix, template } => {
+            put_family(alloc, made, content, prefix, template)
+        },
     }
 }
 
@@ -81,7 +85,7 @@ fn pages_by_path(alloc: Global, content: &Content) -> Result<Pages, NoMemory>
 {
     let mut made = BTreeMap::new(alloc);
     for rule in content.site().page_rules() {
-        put_declared(&mut made, content, rule)?;
+        put_declared(alloc, &mut made, content, rule)?;
     }
     Ok(made)
 }

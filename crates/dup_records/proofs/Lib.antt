@@ -1,6 +1,9 @@
-pub mod Places
+pub mod RowPlaces
 pub mod Tables
 pub mod SameKeys
 pub mod Fits
 pub mod Moved
 pub mod Noted
+pub mod Indexes
+pub mod Groups
+pub mod Edited

@@ -22,7 +22,6 @@ use Rattle.dup_model.specs.declared.edit.Edit.TheVariants.{Put, Remove, Replace}
 use Rattle.dup_model.specs.Changes.{is_of_kind, is_of_key}
 use Rattle.dup_template.specs.SameBody.{same_body}
 use Rattle.dup_template.specs.SameStatement.{body-Decides}
-use Rattle.dup_template.specs.declared.statement.Statement.{Statement}
 use Rattle.dup_model.specs.Commits.{Commit, after, edited}
 use Rattle.dup_model.specs.Content.{Content, Entry, Table, body_at, table, row, text, texts_at, keys, group}
 use Rattle.dup_template.specs.Frame.{Frame}
@@ -151,10 +150,10 @@ module _ (a b : Content) (it : Item) (n : ℕ) where
       (rests_fold (after c commit) commits (frame_after c commit ∙ of) both.1)
 
 -- the keys of rows, and of the rows of a group, by membership
-abbrev has_word : List Word → Word → Bool
+abbrev pub has_word : List Word → Word → Bool
 has_word ws q = list_any (λ w. same w q) ws
 
-keys_row : (q : Word) (es : Table) → has_word (map (λ e. e.0) es) q ≡ is_some (option_map (λ e. e.1) (find (λ e. same e.0 q) es))
+pub keys_row : (q : Word) (es : Table) → has_word (map (λ e. e.0) es) q ≡ is_some (option_map (λ e. e.1) (find (λ e. same e.0 q) es))
 keys_row q [] = refl
 keys_row q (e ∷ es) = by_test (same e.0 q) (keys_row q es)
   where
@@ -178,11 +177,11 @@ none_below q f (e ∷ es) all = by_test (f e) (none_below q f es all.1)
     by_test true rest = ap (λ b. b || has_word (map (λ e. e.0) (filter f es)) q) (above q e.0 all.0) ∙ rest
     by_test false rest = rest
 
-full : (t : Word) → is_key t ≡ true → same [] t ≡ false
+pub full : (t : Word) → is_key t ≡ true → same [] t ≡ false
 full [] h = absurd (true≢false (sym h))
 full (x ∷ xs) h = refl
 
-group_row : (f : ℕ) (t q : Word) (es : Table) → is_key t ≡ true → IsRising es →
+pub group_row : (f : ℕ) (t q : Word) (es : Table) → is_key t ≡ true → IsRising es →
     has_word (map (λ e. e.0) (filter (λ e. same (texts_at (Some e.1) f) t) es)) q ≡ same (texts_at (option_map (λ e. e.1) (find (λ e. same e.0 q) es)) f) t
 group_row f t q [] fine rises = sym (full t fine)
 group_row f t q (e ∷ es) fine rises =
@@ -203,7 +202,7 @@ below_keys : (k : Word) (es : Table) → IsBelow k es → AllByRecursion (λ z. 
 below_keys k [] all = tt
 below_keys k (e ∷ es) all = (all.0, below_keys k es all.1)
 
-sorted_keys : (es : Table) → IsRising es → IsStrictlySortedBy text_cmp (map (λ e. e.0) es)
+pub sorted_keys : (es : Table) → IsRising es → IsStrictlySortedBy text_cmp (map (λ e. e.0) es)
 unfolding IsStrictlySortedBy
 sorted_keys [] rises = tt
 sorted_keys (e ∷ es) rises = (below_keys e.0 es rises.0, sorted_keys es rises.1)
@@ -219,7 +218,7 @@ same_tie z x = by_test (same x z) refl
     by_test true is = ap (eq_by_cmp text_cmp z) (same_is x z is) ∙ ap is_eq (tied_itself nat_list_cmp_total z)
     by_test false is = by_tie (eq_by_cmp text_cmp z x) refl is
 
-same_words : (xs ys : List Word) → IsStrictlySortedBy text_cmp xs → IsStrictlySortedBy text_cmp ys → ((z : Word) → has_word xs z ≡ has_word ys z) → xs ≡ ys
+pub same_words : (xs ys : List Word) → IsStrictlySortedBy text_cmp xs → IsStrictlySortedBy text_cmp ys → ((z : Word) → has_word xs z ≡ has_word ys z) → xs ≡ ys
 same_words xs ys r s alike = btree_set_from_contains nat_list_cmp_total (record { keys = xs }) (record { keys = ys }) r s (λ z. tests xs z ∙ (alike z ∙ sym (tests ys z))) equal_is
   where
     tests : (ws : List Word) (z : Word) → list_any (eq_by_cmp text_cmp z) ws ≡ has_word ws z

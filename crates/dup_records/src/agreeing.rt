@@ -5,10 +5,13 @@ ghost use Rattle.dup_names.specs.Words.{same};
 ghost use Rattle.dup_template.specs.declared.value.Value.TheVariants as seen_as;
 ghost use Rattle.dup_model.specs.Content.{texts_at};
 
-use crate::keys::{group_has_keys, have_keys};
-use crate::rows::Entry;
+use crate::entry::Entry;
+use crate::keys::have_keys;
+use crate::table::Table;
+use dup_chunks::{Steps, Walk};
 use dup_names::Key;
 use dup_template::{Statement, Value};
+use std::sync::ledger::Ledger;
 
 pub(crate) fn is_text(bytes: &[u8], seen: &Value) -> bool
     ensures { IsTrue result ↔ (seen_as.Text bytes.now ≡ seen.now) }
@@ -37,22 +40,28 @@ pub(crate) fn is_body(body: &[Statement], seen: &Value) -> bool
     }
 }
 
-pub(crate) fn are_keys(entries: &[Entry], seen: &Value) -> bool
-    ensures { IsTrue result ↔ (seen_as.Keys (map (λ e. e.0) entries.now) ≡ seen.now) }
+pub(crate) fn are_keys<L: Ledger>(rows: Walk<'_, Entry>, seen: &Value, steps: &mut Steps<L>) -> bool
+    ensures { IsTrue result ↔ (seen_as.Keys (map (λ e. e.0) rows.entry) ≡ seen.now) }
 {
     match seen {
-        Value::Keys(keys) => have_keys(entries, keys.items()),
+        Value::Keys(keys) => have_keys(rows, keys.items(), steps),
         _ => false,
     }
 }
 
-pub(crate) fn are_group(entries: &[Entry], field: usize, key: &Key, seen: &Value) -> bool
+pub(crate) fn are_group<L: Ledger>(
+    table: &Table,
+    field: usize,
+    key: &Key,
+    seen: &Value,
+    steps: &mut Steps<L>,
+) -> bool
     ensures { IsTrue result
-        ↔ (seen_as.Keys (map (λ e. e.0) (filter (λ e. same (texts_at (Some e.1) field) key.now) entries.now))
+        ↔ (seen_as.Keys (map (λ e. e.0) (filter (λ e. same (texts_at (Some e.1) field) key.now) table.now))
         ≡ seen.now) }
 {
     match seen {
-        Value::Keys(keys) => group_has_keys(entries, field, key, keys.items()),
+        Value::Keys(keys) => table.has_group(field, key, keys.items(), steps),
         _ => false,
     }
 }

@@ -41,7 +41,7 @@ fn put(
     if !are_known(content.fields(kind), fields) {
         return Err(CommitRefusal::UnknownField(number));
     }
-    if !content.has_row(kind, key) && content.rows(kind).len() >= rows as usize {
+    if !content.has_row(kind, key) && content.rows(kind).has_at_least(rows as usize) {
         return Err(CommitRefusal::KindFull(number));
     }
     Ok(content.with_put(alloc, kind, key, fields)?)
@@ -118,7 +118,8 @@ fn edit(
 /// texts. A kind takes no new row past so many. A new body stands in place of its template's. The
 /// first change that fails decides; in it the kind is looked at first, then the fields, then the row,
 /// and the template first, then its body. It never answers `JournalFull`. A change of a row costs a
-/// walk over the rows of its kind, one of a body the body and the site's frame.
+/// search and the chunk of its place, in the rows of its kind and in the index of each field whose text
+/// differs, and one more owner of each other chunk; one of a body costs the body and the site's frame.
 pub fn apply(
     alloc: Global,
     content: &Content,

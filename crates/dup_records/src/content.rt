@@ -1,5 +1,5 @@
 // Contents: a site and the rows of its kinds.
-ghost use Rattle.std.specs.Prelude.{◌≡◌, ◌<◌, ◌↔◌, [], IsTrue, IfOk, length, map, not, is_some, replicate};
+ghost use Rattle.std.specs.Prelude.{◌≡◌, ◌+◌, ◌≤◌, ◌<◌, ◌^◌, ◌↔◌, [], ℕ, IsTrue, IfOk, OnOk, length, map, not, is_some, replicate};
 ghost use Rattle.std.specs.Prelude.{slice_set};
 ghost use Rattle.std.specs.Result.{result_err};
 ghost use Rattle.dup_template.specs.Frame.{bodies_of, frame_of};
@@ -13,20 +13,21 @@ ghost use Rattle.dup_model.specs.Content.{IsOf, body_at, group, keys, row, start
 ghost use Rattle.dup_model.specs.Commits.{blank, put_row, with_fields, with_table};
 ghost use Rattle.dup_model.specs.Tables.{IsRising, TablesRise};
 ghost use Rattle.dup_records.specs.Fits.{HaveTexts, RowsFit};
+ghost use Rattle.dup_records.specs.Costs.{GroupCosts};
 
 use crate::agreeing::{are_group, are_keys, is_answer, is_body, is_text};
-use crate::keys::{keys_of, keys_where};
-use crate::rows::{
-    Entry, find_row, find_text, rows_with, rows_without, set_fields, text_or_empty, texts_or_blank,
-};
+use crate::entry::Entry;
+use crate::keys::keys_of;
+use crate::rows::{set_fields, text_of, text_or_empty, texts_or_blank};
+use crate::table::Table;
+use dup_chunks::Steps;
 use dup_lists::Listed;
 use dup_names::{Item, Key, KeyList, Name, NoMemory, Obj, Text};
 use dup_template::{Body, SharedBody, Site, SiteRefusal, Statement, Value};
 use std::alloc::Global;
-use std::marker::Model;
+use std::marker::{Brand, Model};
 use std::sync::Arc;
-
-type Table = Listed<Entry>;
+use std::sync::ledger::{Blank, Ledger};
 
 /// A site with the present bodies of its templates, and for each kind its rows, which are shared with the
 /// contents that this one was made from.
@@ -36,10 +37,12 @@ type Table = Listed<Entry>;
 pub struct Content {
     site: Arc<Site, Global>,
     tables: Vec<Arc<Table, Global>>,
+    // The rows of a kind that isn't there.
+    none: Arc<Table, Global>,
 }
 
 impl Model for Content {
-    ghost use Rattle.std.specs.Prelude.{◌≡◌, map, length};
+    ghost use Rattle.std.specs.Prelude.{◌≡◌, [], map, length};
     ghost use Rattle.std.specs.List.{AllByRecursion};
     ghost use Rattle.std.specs.Coded.{codes};
     ghost use Rattle.dup_template.specs.contracts.statement.Statement as statement;
@@ -61,15 +64,16 @@ impl Model for Content {
     ghost invariant = { λ c.
         (length c.tables.items ≡ length c.site.value.kinds)
         × AllByRecursion IsRising (map (λ t. t.value) c.tables.items)
-        × TablesFit (frame_of c.site.value) (map (λ t. t.value) c.tables.items) };
+        × TablesFit (frame_of c.site.value) (map (λ t. t.value) c.tables.items)
+        × (c.none.value ≡ []) };
 }
 
-fn table_at(tables: &[Arc<Table, Global>], kind: usize) -> &[Entry]
-    ensures { result.now ≡ unwrap_or (slice_get (map (λ t. t.value) tables.now) kind) [] }
+fn table_at<'a>(tables: &'a [Arc<Table, Global>], kind: usize, none: &'a Table) -> &'a Table
+    ensures { result.now ≡ unwrap_or (slice_get (map (λ t. t.value) tables.now) kind) none.now }
 {
     match tables.get(kind) {
-        None => &[],
-        Some(table) => table.items(),
+        None => none,
+        Some(table) => table,
     }
 }
 
@@ -91,8 +95,7 @@ fn empty_tables(alloc: Global, count: usize) -> Result<Vec<Arc<Table, Global>>, 
 {
     let mut made = Vec::with_capacity(alloc, count)?;
     for _index in 0..count {
-        let table = Listed::of(Vec::new(alloc));
-        made.push(Arc::new(alloc, table)?)?;
+        made.push(Arc::new(alloc, Table::new(alloc))?)?;
     }
     Ok(made)
 }
@@ -103,7 +106,8 @@ impl Content {
         ensures { IfOk result (λ made. made ≡ start site.value) }
     {
         let tables = empty_tables(alloc, site.kinds().len())?;
-        Ok(Content { site, tables })
+        let none = Arc::new(alloc, Table::new(alloc))?;
+        Ok(Content { site, tables, none })
     }
 
     /// An equal content, which shares the site and all rows.
@@ -112,7 +116,8 @@ impl Content {
     {
         let site = Arc::try_clone(&self.site)?;
         let tables = shared_tables(alloc, &self.tables)?;
-        Ok(Content { site, tables })
+        let none = Arc::try_clone(&self.none)?;
+        Ok(Content { site, tables, none })
     }
 
     /// The site, with the present bodies.
@@ -223,12 +228,12 @@ impl Content {
     }
 
     /// The rows of a kind in the order of their keys, none of a kind that isn't there.
-    pub fn rows(&self, kind: u16) -> &[Entry]
+    pub(crate) fn rows(&self, kind: u16) -> &Table
         ensures value { result.now ≡ table self.now kind }
         ensures rising { IsRising result.now }
         ensures fit { HaveTexts (length (fields_at self.now.frame kind)) result.now }
     {
-        table_at(&self.tables, usize::from(kind))
+        table_at(&self.tables, usize::from(kind), &self.none)
     }
 
     /// What its rows keep: they stand in the order of their keys, and have a text for each field. It
@@ -245,17 +250,18 @@ impl Content {
         &self,
         alloc: Global,
         kind: u16,
-        rows: Vec<Entry>,
+        rows: Table,
     ) -> Result<Content, NoMemory>
         requires kind { kind < length self.now.frame.kinds }
-        requires rising { IsRising rows.items }
-        requires fit { HaveTexts (length (fields_at self.now.frame kind)) rows.items }
-        ensures { IfOk result (λ made. made ≡ with_table self.now kind rows.items) }
+        requires rising { IsRising rows }
+        requires fit { HaveTexts (length (fields_at self.now.frame kind)) rows }
+        ensures { IfOk result (λ made. made ≡ with_table self.now kind rows) }
     {
         let mut tables = shared_tables(alloc, &self.tables)?;
-        tables[usize::from(kind)] = Arc::new(alloc, Listed::of(rows))?;
+        tables[usize::from(kind)] = Arc::new(alloc, rows)?;
         let site = Arc::try_clone(&self.site)?;
-        Ok(Content { site, tables })
+        let none = Arc::try_clone(&self.none)?;
+        Ok(Content { site, tables, none })
     }
 
     /// The same content with this body in place of a template's, or the first rule that the body breaks
@@ -287,7 +293,8 @@ impl Content {
     {
         let tables = shared_tables(alloc, &self.tables)?;
         let site = Arc::new(alloc, site)?;
-        Ok(Content { site, tables })
+        let none = Arc::try_clone(&self.none)?;
+        Ok(Content { site, tables, none })
     }
 
     /// The same content with these texts in the row of a kind that is under a key.
@@ -306,10 +313,10 @@ impl Content {
             (put_row (key.now, with_fields names fields.now texts) (table self.now kind))) }
     {
         let names = self.fields(kind);
-        let entries = self.rows(kind);
-        let mut texts = texts_or_blank(alloc, entries, key, names)?;
+        let rows = self.rows(kind);
+        let mut texts = texts_or_blank(alloc, rows.row(key), names)?;
         set_fields(names, fields, &mut texts)?;
-        let made = rows_with(alloc, entries, (*key, Listed::of(texts)))?;
+        let made = rows.with_row(alloc, Entry::of(alloc, *key, texts)?)?;
         self.with_rows(alloc, kind, made)
     }
 
@@ -319,32 +326,46 @@ impl Content {
         ensures { IfOk result (λ made. made
             ≡ with_table self.now kind (filter (λ e. not (same e.0 key.now)) (table self.now kind))) }
     {
-        let made = rows_without(alloc, self.rows(kind), key)?;
+        let made = self.rows(kind).without(alloc, key)?;
         self.with_rows(alloc, kind, made)
+    }
+
+    fn has_row_counted<L: Ledger>(&self, kind: u16, key: &Key, steps: &mut Steps<L>) -> bool
+        ensures { result ≡ is_some (row self.now kind key.now) }
+    {
+        self.rows(kind).find(key, steps).is_some()
     }
 
     /// Whether a row is there. It takes no memory, nor does `text`.
     pub fn has_row(&self, kind: u16, key: &Key) -> bool
         ensures { result ≡ is_some (row self.now kind key.now) }
     {
-        find_row(self.rows(kind), key).is_some()
+        self.rows(kind).row(key).is_some()
     }
 
     /// A row's field, empty where the row or the field isn't there.
     pub fn text<'a>(&'a self, kind: u16, key: &Key, field: u16) -> &'a [u8]
         ensures { result.now ≡ text self.now kind key.now field }
     {
-        match find_text(self.rows(kind), key, usize::from(field)) {
+        match text_of(self.rows(kind).row(key), usize::from(field)) {
             None => &[],
             Some(text) => text.bytes(),
         }
     }
 
     // A row's field as a value, whose text is shared where the row is there.
-    fn text_value(&self, alloc: Global, kind: u16, key: &Key, field: u16) -> Result<Text, NoMemory>
+    fn text_value<L: Ledger>(
+        &self,
+        alloc: Global,
+        kind: u16,
+        key: &Key,
+        field: u16,
+        steps: &mut Steps<L>,
+    ) -> Result<Text, NoMemory>
         ensures { IfOk result (λ made. made ≡ text self.now kind key.now field) }
     {
-        text_or_empty(alloc, find_text(self.rows(kind), key, usize::from(field)))
+        let row = self.rows(kind).find(key, steps);
+        text_or_empty(alloc, text_of(row, usize::from(field)))
     }
 
     // A template's body as a value, which is shared where the template is there.
@@ -357,15 +378,78 @@ impl Content {
         }
     }
 
+    // The keys of a kind, in order.
+    fn keys_counted<L: Ledger>(
+        &self,
+        alloc: Global,
+        kind: u16,
+        steps: &mut Steps<L>,
+    ) -> Result<KeyList, NoMemory>
+        ensures { IfOk result (λ made. made ≡ keys self.now kind) }
+    {
+        let keys = keys_of(alloc, self.rows(kind).walk(), steps)?;
+        Ok(Listed::of(keys))
+    }
+
+    fn keys_by<L: Ledger>(
+        &self,
+        blank: Blank,
+        alloc: Global,
+        kind: u16,
+    ) -> Result<KeyList, NoMemory>
+        requires name { blank.name ≡ L.name }
+        requires parts { blank.parts ≡ L.parts }
+        requires some { 0 < blank.parts }
+        ensures { IfOk result (λ made. made ≡ keys self.now kind) }
+    {
+        let mut steps = Steps::<L>::new(blank);
+        self.keys_counted(alloc, kind, &mut steps)
+    }
+
     /// The keys of a kind, in order.
     pub fn keys(&self, alloc: Global, kind: u16) -> Result<KeyList, NoMemory>
         ensures { IfOk result (λ made. made ≡ keys self.now kind) }
     {
-        let keys = keys_of(alloc, self.rows(kind))?;
+        self.keys_by::<Brand>(Blank::new(1), alloc, kind)
+    }
+
+    // The keys of the rows whose field is this text, in order.
+    fn group_counted<L: Ledger>(
+        &self,
+        alloc: Global,
+        kind: u16,
+        field: u16,
+        key: &Key,
+        steps: &mut Steps<L>,
+    ) -> Result<KeyList, NoMemory>
+        ensures value { IfOk result (λ made. made ≡ group self.now kind field key.now) }
+        ensures cost { IfOk result (λ made. (d : ℕ) → length (table self.now kind) < 2 ^ d →
+            steps.new ≤ steps.old + length made + d + 8) }
+    {
+        let keys = self
+            .rows(kind)
+            .group(alloc, usize::from(field), key, steps)?;
         Ok(Listed::of(keys))
     }
 
-    /// The keys of the rows whose field is this text, in order. It walks the whole kind.
+    fn group_by<L: Ledger>(
+        &self,
+        blank: Blank,
+        alloc: Global,
+        kind: u16,
+        field: u16,
+        key: &Key,
+    ) -> Result<KeyList, NoMemory>
+        requires name { blank.name ≡ L.name }
+        requires parts { blank.parts ≡ L.parts }
+        requires some { 0 < blank.parts }
+        ensures { IfOk result (λ made. made ≡ group self.now kind field key.now) }
+    {
+        let mut steps = Steps::<L>::new(blank);
+        self.group_counted(alloc, kind, field, key, &mut steps)
+    }
+
+    /// The keys of the rows whose field is this text, in order. It costs a search, and a look at each.
     pub fn group(
         &self,
         alloc: Global,
@@ -375,40 +459,80 @@ impl Content {
     ) -> Result<KeyList, NoMemory>
         ensures { IfOk result (λ made. made ≡ group self.now kind field key.now) }
     {
-        let keys = keys_where(alloc, self.rows(kind), usize::from(field), key)?;
-        Ok(Listed::of(keys))
+        self.group_by::<Brand>(Blank::new(1), alloc, kind, field, key)
+    }
+
+    /// The value of an item. Each step is a row, or a text with a row's key, that is looked at. A group costs
+    /// a step for each of its keys, a search among as many as its kind has rows, and 8 more at most.
+    pub fn value_counted<L: Ledger>(
+        &self,
+        alloc: Global,
+        item: &Item,
+        steps: &mut Steps<L>,
+    ) -> Result<Value, NoMemory>
+        ensures value { IfOk result (λ made. made ≡ value self.now item.now) }
+        ensures cost { OnOk result (GroupCosts self.now item.now steps.old steps.new) }
+    {
+        match item {
+            Item::Field { kind, key, field } => Ok(Value::Text(self.text_value(
+                alloc, *kind, key, *field, steps,
+            )?)),
+            Item::Row { kind, key } => {
+                Ok(Value::Exists(self.has_row_counted(*kind, key, steps)))
+            }
+            Item::List { kind } => Ok(Value::Keys(self.keys_counted(alloc, *kind, steps)?)),
+            Item::Group { kind, field, key } => Ok(Value::Keys(self.group_counted(
+                alloc, *kind, *field, key, steps,
+            )?)),
+            Item::Template { template } => Ok(Value::Body(self.body_value(alloc, *template)?)),
+        }
+    }
+
+    fn value_by<L: Ledger>(
+        &self,
+        blank: Blank,
+        alloc: Global,
+        item: &Item,
+    ) -> Result<Value, NoMemory>
+        requires name { blank.name ≡ L.name }
+        requires parts { blank.parts ≡ L.parts }
+        requires some { 0 < blank.parts }
+        ensures { IfOk result (λ made. made ≡ value self.now item.now) }
+    {
+        let mut steps = Steps::<L>::new(blank);
+        self.value_counted(alloc, item, &mut steps)
     }
 
     /// The value of an item.
     pub fn value(&self, alloc: Global, item: &Item) -> Result<Value, NoMemory>
         ensures { IfOk result (λ made. made ≡ value self.now item.now) }
     {
-        match item {
-            Item::Field { kind, key, field } => {
-                Ok(Value::Text(self.text_value(alloc, *kind, key, *field)?))
-            }
-            Item::Row { kind, key } => Ok(Value::Exists(self.has_row(*kind, key))),
-            Item::List { kind } => Ok(Value::Keys(self.keys(alloc, *kind)?)),
-            Item::Group { kind, field, key } => {
-                Ok(Value::Keys(self.group(alloc, *kind, *field, key)?))
-            }
-            Item::Template { template } => Ok(Value::Body(self.body_value(alloc, *template)?)),
-        }
+        self.value_by::<Brand>(Blank::new(1), alloc, item)
     }
 
-    /// Whether an item has this value. It takes no memory; of a list or a group it walks the whole kind, of
-    /// a template its body.
-    pub fn agrees(&self, item: &Item, seen: &Value) -> bool
+    fn agrees_by<L: Ledger>(&self, blank: Blank, item: &Item, seen: &Value) -> bool
+        requires name { blank.name ≡ L.name }
+        requires parts { blank.parts ≡ L.parts }
+        requires some { 0 < blank.parts }
         ensures { IsTrue result ↔ (value self.now item.now ≡ seen.now) }
     {
+        let mut steps = Steps::<L>::new(blank);
         match item {
             Item::Field { kind, key, field } => is_text(self.text(*kind, key, *field), seen),
             Item::Row { kind, key } => is_answer(self.has_row(*kind, key), seen),
-            Item::List { kind } => are_keys(self.rows(*kind), seen),
+            Item::List { kind } => are_keys(self.rows(*kind).walk(), seen, &mut steps),
             Item::Group { kind, field, key } => {
-                are_group(self.rows(*kind), usize::from(*field), key, seen)
+                are_group(self.rows(*kind), usize::from(*field), key, seen, &mut steps)
             }
             Item::Template { template } => is_body(self.body_of(*template), seen),
         }
+    }
+
+    /// Whether an item has this value. It takes no memory; of a list it walks the whole kind, of a group its
+    /// rows, of a template its body.
+    pub fn agrees(&self, item: &Item, seen: &Value) -> bool
+        ensures { IsTrue result ↔ (value self.now item.now ≡ seen.now) }
+    {
+        self.agrees_by::<Brand>(Blank::new(1), item, seen)
     }
 }

@@ -7,10 +7,14 @@ mod change;
 mod changing;
 mod commit;
 mod content;
+mod entry;
+mod index;
 mod journal;
 mod keys;
+mod pair;
 mod refusal;
 mod rows;
+mod table;
 
 pub use applying::apply;
 pub use change::Change;
@@ -19,9 +23,10 @@ pub use commit::{Commit, Limits};
 pub use content::Content;
 pub use journal::JournalSize;
 pub use refusal::CommitRefusal;
-pub use rows::Entry;
 
 #[cfg(test)]
 mod changing_tests;
+#[cfg(test)]
+mod table_tests;
 #[cfg(test)]
 mod tests;

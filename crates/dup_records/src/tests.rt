@@ -17,7 +17,7 @@ fn key(text: &str) -> Result<Key, Fail> {
 }
 
 // Content 0 of a site with the kind `result`, which has the fields `event` and `who`.
-fn results(alloc: Global) -> Result<Content, Fail> {
+pub(crate) fn results(alloc: Global) -> Result<Content, Fail> {
     let fields = Listed::of(vec![in alloc; name("event")?, name("who")?]?);
     let kind = KindPart {
         name: name("result")?,

@@ -88,7 +88,7 @@ fn skeleton_of(alloc: Global, marks: &[Mark]) -> Result<Skeleton, NoMemory>
 /// read. Each success counts one expansion; a refusal counts none. Only want of memory is refused.
 ///
 /// The cost grows with what the template meets, its marks: n log n in those that read or link, and
-/// a walk over the kind for each group that an `each` by a field asks for, and once more for its
+/// a search and the keys for each group that an `each` by a field asks for, and once more for its
 /// note. The rest of the site's rows is not gone through.
 pub fn expand(
     alloc: Global,

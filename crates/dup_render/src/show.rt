@@ -90,7 +90,7 @@ pub fn is_job(content: &Content, obj: &Obj) -> bool
 
 /// What an object shows, with all that it embeds, from scratch: an object that is embedded twice is
 /// rendered twice. A row is found by a binary search and a name by a walk over its list; an `each`
-/// by a field walks the whole kind. Only want of memory is refused.
+/// by a field costs a search and its rows. Only want of memory is refused.
 pub fn show_plain(alloc: Global, content: &Content, obj: &Obj) -> Result<Vec<u8>, NoMemory>
     requires { IsJob content.now.frame obj.now }
     ensures { IfOk result (λ made. made.items ≡ show content.now obj.now) }

@@ -2,4 +2,4 @@ use Rattle.dup_records.proofs.SameKeys.{keys_same}
 use Rattle.dup_records.proofs.agreeing.are_group.Goals as goal
 
 pub returns-in-Keys : goal.returns-in-Keys
-returns-in-Keys c = rw (c.in-Keys.is, ← c.items.ensures) (keys_same _ _ _ c.group_has_keys.ensures)
+returns-in-Keys g c = rw (c.in-Keys.is, ← c.items.ensures) (keys_same _ _ _ c.has_group.ensures)

@@ -1,0 +1,18 @@
+//! Lists that stand in chunks, which are shared with the lists that they were made from.
+#![tactic(auto)]
+
+mod chunked;
+mod cut;
+mod edits;
+mod parts;
+mod place;
+mod probe;
+mod share;
+mod steps;
+mod walk;
+
+pub use chunked::Chunked;
+pub use probe::Probe;
+pub use share::Share;
+pub use steps::Steps;
+pub use walk::Walk;

@@ -1,4 +1,0 @@
-use Rattle.dup_records.proofs.content.Content.agrees.Goals as goal
-
-pub returns-in-Group : goal.returns-in-Group
-returns-in-Group c = rw (c.in-Group.is, ← c.rows-in-Group.ensures.value, ← c.from.ensures) c.are_group.ensures

@@ -1,0 +1,19 @@
+use Rattle.std.proofs.Common.{map, ap, ◌∙◌}
+use Rattle.std.specs.List.{filter}
+use Rattle.std.specs.Cmp.Lexicographic.{pointwise}
+use Rattle.dup_names.specs.Words.{same}
+use Rattle.dup_chunks.specs.Cut.{front}
+use Rattle.dup_records.specs.Pairs.{Pair}
+use Rattle.dup_records.proofs.Groups.{text_falls, group_front}
+use Rattle.dup_records.proofs.index.has_keys_in.Goals as goal
+
+pub walk_from-pairs-requires : goal.walk_from-pairs-requires
+walk_from-pairs-requires g c = text_falls c.bytes-text.result.now c.args.index.now c.requires
+
+pub returns : goal.returns
+returns g c =
+    let t = c.bytes-text.result.now in
+    let keys = c.args.keys.now in
+    c.have_first_keys.ensures ∙ ap (λ l. pointwise same (map (λ (q : Pair). q.1) (front (λ (q : Pair). same q.0 t) l)) keys) c.walk_from-pairs.ensures.value
+    ∙ ap (λ l. pointwise same (map (λ (q : Pair). q.1) l) keys) (group_front t c.args.index.now c.requires)
+    ∙ ap (λ w. pointwise same (map (λ (q : Pair). q.1) (filter (λ (q : Pair). same q.0 w) c.args.index.now)) keys) c.bytes-text.ensures.value
