@@ -7,9 +7,10 @@ ghost use Rattle.dup_names.specs.Objects.{is_in};
 ghost use Rattle.dup_graph.specs.Graph.{node_at};
 ghost use Rattle.dup_walk.specs.Affected.{has_changed, IsAffected};
 
-use dup_graph::{Graph, Steps};
+use dup_graph::Graph;
 use dup_names::{Item, NoMemory};
 use dup_sets::ObjSet;
+use dup_steps::Steps;
 use dup_walk::{affected, readers};
 use std::alloc::Global;
 use std::marker::Brand;

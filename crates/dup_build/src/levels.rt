@@ -14,9 +14,10 @@ ghost use Rattle.dup_build.specs.Stocked.{level_in, waiting_in};
 
 use crate::node::objs_in_order;
 use crate::stock::Stock;
-use dup_graph::{Graph, Steps};
+use dup_graph::Graph;
 use dup_join::{JoinJob, join_level};
 use dup_names::{Look, NoMemory, Obj};
+use dup_steps::Steps;
 use std::alloc::Global;
 use std::marker::Brand;
 use std::sync::Arc;

@@ -10,9 +10,10 @@ ghost use Rattle.dup_build.specs.Loose.{is_embedded, is_held, shown_by, AreGone,
 
 use crate::node::{Node, node_children, stays};
 use crate::paged::Paged;
-use dup_graph::{Graph, Steps};
+use dup_graph::Graph;
 use dup_names::{NoMemory, Obj};
 use dup_sets::{ObjSet, Table};
+use dup_steps::Steps;
 use std::alloc::Global;
 use std::marker::Brand;
 use std::sync::ledger::{Blank, Ledger};

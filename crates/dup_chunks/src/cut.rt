@@ -3,8 +3,8 @@ ghost use Rattle.std.specs.Prelude.{◌≡◌, ◌+◌, ◌≤◌, ◌<◌, ◌^
 ghost use Rattle.dup_chunks.specs.Cut.{Falls, front, first_passes};
 
 use crate::probe::Probe;
-use crate::steps::Steps;
 use dup_lists::Listed;
+use dup_steps::Steps;
 use std::alloc::Global;
 use std::sync::Arc;
 use std::sync::ledger::Ledger;

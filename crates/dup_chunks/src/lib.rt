@@ -8,11 +8,9 @@ mod parts;
 mod place;
 mod probe;
 mod share;
-mod steps;
 mod walk;
 
 pub use chunked::Chunked;
 pub use probe::Probe;
 pub use share::Share;
-pub use steps::Steps;
 pub use walk::Walk;

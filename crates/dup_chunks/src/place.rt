@@ -7,7 +7,7 @@ ghost use Rattle.dup_chunks.specs.Chunks.{AreChunks, IsPlace};
 use crate::cut::{First, cut};
 use crate::parts::{Chunk, items_of};
 use crate::probe::Probe;
-use crate::steps::Steps;
+use dup_steps::Steps;
 use std::marker::Brand;
 use std::sync::ledger::{Blank, Ledger};
 

@@ -6,8 +6,8 @@ ghost use Rattle.dup_chunks.specs.Chunks.{AreChunks, items_at};
 
 use crate::parts::{Chunk, behind, items_of};
 use crate::place::Place;
-use crate::steps::Steps;
 use dup_lists::Listed;
+use dup_steps::Steps;
 use std::alloc::Global;
 use std::marker::Model;
 use std::sync::Arc;

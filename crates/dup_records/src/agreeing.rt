@@ -8,8 +8,9 @@ ghost use Rattle.dup_model.specs.Content.{texts_at};
 use crate::entry::Entry;
 use crate::keys::have_keys;
 use crate::table::Table;
-use dup_chunks::{Steps, Walk};
+use dup_chunks::Walk;
 use dup_names::Key;
+use dup_steps::Steps;
 use dup_template::{Statement, Value};
 use std::sync::ledger::Ledger;
 

@@ -8,8 +8,9 @@ ghost use Rattle.dup_chunks.specs.Cut.{Rises, front};
 ghost use Rattle.dup_records.specs.Pairs.{HasText, IsMoved, has_pair, is_text, pair_cmp, pairs_at, same_pair};
 
 use crate::pair::{Pair, PairBefore, TextBefore};
-use dup_chunks::{Chunked, Steps, Walk};
+use dup_chunks::{Chunked, Walk};
 use dup_names::{Key, NoMemory, Text};
+use dup_steps::Steps;
 use std::alloc::Global;
 use std::sync::ledger::Ledger;
 

@@ -4,8 +4,9 @@ ghost use Rattle.std.specs.Cmp.Lexicographic.{pointwise};
 ghost use Rattle.dup_names.specs.Words.{same};
 
 use crate::entry::Entry;
-use dup_chunks::{Steps, Walk};
+use dup_chunks::Walk;
 use dup_names::{Key, NoMemory};
+use dup_steps::Steps;
 use std::alloc::Global;
 use std::sync::ledger::Ledger;
 

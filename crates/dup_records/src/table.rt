@@ -10,8 +10,9 @@ ghost use Rattle.dup_model.specs.Tables.{IsRising};
 
 use crate::entry::{Entry, RowBefore};
 use crate::index::{Index, all_moved, has_keys_in, item_at, keys_in};
-use dup_chunks::{Chunked, Steps, Walk};
+use dup_chunks::{Chunked, Walk};
 use dup_names::{Key, NoMemory, Text};
+use dup_steps::Steps;
 use std::alloc::Global;
 use std::marker::{Brand, Model};
 use std::sync::ledger::{Blank, Ledger};
