@@ -1,15 +1,14 @@
 -- What trees of objects say of their keys, in the order of objects.
-use Rattle.std.proofs.Common.{◌≡◌, Bool, true, false, not, cond, ◌&&◌, ◌||◌, inl, inr, List, [], ◌∷◌, Option, Some, refl, sym, ap, subst, ◌∙◌, rules}
+use Rattle.std.proofs.Common.{◌≡◌, Bool, true, false, not, cond, ◌&&◌, ◌||◌, inl, inr, List, [], ◌∷◌, Some, refl, sym, ap, subst, ◌∙◌, rules}
 use Rattle.std.specs.Bool.{Decides}
 use Rattle.std.proofs.lemmas.Slice.Eq.{bytes_eq-Decides}
 use Rattle.std.specs.List.{filter, find, list_any}
 use Rattle.std.specs.List.Sorted.{IsStrictlySortedBy}
-use Rattle.std.specs.Map.{lookup, remove_entry}
 use Rattle.std.specs.Set.{remove_key}
 use Rattle.std.specs.Ordering.{is_eq, is_lt, match_ordering}
-use Rattle.std.specs.BTreeMap.{is_at, insert_entry}
+use Rattle.std.specs.BTreeMap.{is_at}
 use Rattle.std.specs.BTreeMap.Range.{range_contains}
-use Rattle.std.specs.BTreeSet.{insert_key, replace_key}
+use Rattle.std.specs.BTreeSet.{insert_key}
 use Rattle.std.specs.declared.ops.Bound.TheVariants.{Excluded, Unbounded}
 use Rattle.std.specs.declared.cmp.Ordering.{Ordering}
 use Rattle.std.specs.declared.cmp.Ordering.TheVariants.{Less, Equal, Greater}
@@ -24,10 +23,9 @@ use Rattle.dup_model.specs.Touched.{without}
 use Rattle.dup_machine.specs.Works.{first_of}
 use Rattle.dup_names.proofs.ObjectOrder.{obj_same}
 use Rattle.dup_model.proofs.Reached.{or_right}
-use Rattle.dup_names.proofs.ObjectOrder.{obj_itself, obj_tied}
+use Rattle.dup_names.proofs.ObjectOrder.{obj_itself}
 use Rattle.dup_model.proofs.Objects.{IsOnce, once_in_order}
-use Rattle.dup_sets.specs.Entries.{at, objs}
-use Rattle.dup_machine.proofs.InOrder.{IsOrdered, sorted_stays, ordered_put, tied_obj, same_turned}
+use Rattle.dup_machine.proofs.InOrder.{IsOrdered, sorted_stays, ordered_put, tied_obj}
 
 cmp_at : (a b : Obj) → order.cmp a b ≡ obj_cmp a b
 cmp_at a b = search rules
@@ -48,10 +46,6 @@ pub contains_is : (o : Obj) (os : List Obj) → list_any (is_at (order.cmp o)) o
 contains_is o [] = refl
 contains_is o (x ∷ xs) = λ i. at_is o x i || contains_is o xs i
 
-pub lookup_is : {T : Type 0} (o : Obj) (es : List (Obj × T)) → lookup (is_at (order.cmp o)) es ≡ at es o
-lookup_is o [] = refl
-lookup_is o (e ∷ es) = λ i. cond (at_is o e.0 i) (Some e.1) (lookup_is o es i)
-
 -- one is put in
 
 match_is : (r : Ordering) (x y : Obj) (ys rest : List Obj) → match_ordering r (x ∷ y ∷ ys) (y ∷ ys) (y ∷ rest) ≡ put_at r x y ys rest
@@ -66,44 +60,6 @@ insert_puts o (x ∷ xs) =
 
 pub insert_is : (o : Obj) (os : List Obj) → IsOrdered os → insert_key order.cmp os o ≡ in_order obj_cmp (o ∷ os)
 insert_is o os h = insert_puts o os ∙ ordered_put o os h
-
-replace_match : (r : Ordering) (x y : Obj) (ys rest : List Obj) → obj_cmp x y ≡ r → match_ordering r (x ∷ y ∷ ys) (x ∷ ys) (y ∷ rest) ≡ put_at r x y ys rest
-replace_match Less x y ys rest is = refl
-replace_match Equal x y ys rest is = ap (λ z. z ∷ ys) (obj_tied x y is)
-replace_match Greater x y ys rest is = refl
-
-replace_puts : (o : Obj) (os : List Obj) → replace_key order.cmp os o ≡ put obj_cmp o os
-replace_puts o [] = refl
-replace_puts o (x ∷ xs) =
-    (λ i. match_ordering (cmp_at o x i) (o ∷ x ∷ xs) (o ∷ xs) (x ∷ replace_puts o xs i)) ∙ replace_match (obj_cmp o x) o x xs (put obj_cmp o xs) refl
-
--- an object takes the place of itself
-pub replace_is : (o : Obj) (os : List Obj) → IsOrdered os → replace_key order.cmp os o ≡ in_order obj_cmp (o ∷ os)
-replace_is o os h = replace_puts o os ∙ ordered_put o os h
-
-module _ {T : Type 0} where
-  objs_match : (r : Ordering) (o : Obj) (kept : T) (e : Obj × T) (es rest : List (Obj × T)) →
-      objs (match_ordering r ((o, kept) ∷ e ∷ es) ((e.0, kept) ∷ es) (e ∷ rest)) ≡ match_ordering r (o ∷ e.0 ∷ objs es) (e.0 ∷ objs es) (e.0 ∷ objs rest)
-  objs_match Less o kept e es rest = refl
-  objs_match Equal o kept e es rest = refl
-  objs_match Greater o kept e es rest = refl
-
-  objs_insert : (o : Obj) (kept : T) (es : List (Obj × T)) → objs (insert_entry order.cmp es o kept) ≡ insert_key order.cmp (objs es) o
-  objs_insert o kept [] = refl
-  objs_insert o kept (e ∷ es) =
-      objs_match (order.cmp o e.0) o kept e es (insert_entry order.cmp es o kept)
-      ∙ ap (λ l. match_ordering (order.cmp o e.0) (o ∷ e.0 ∷ objs es) (e.0 ∷ objs es) (e.0 ∷ l)) (objs_insert o kept es)
-
-  pub objs_put : (o : Obj) (kept : T) (es : List (Obj × T)) → IsOrdered (objs es) → objs (insert_entry order.cmp es o kept) ≡ in_order obj_cmp (o ∷ objs es)
-  objs_put o kept es h = objs_insert o kept es ∙ insert_is o (objs es) h
-
-  objs_remove : (test : Obj → Bool) (es : List (Obj × T)) → objs (remove_entry test es) ≡ remove_key test (objs es)
-  objs_remove test [] = refl
-  objs_remove test (e ∷ es) = by_test (test e.0) (objs_remove test es)
-    where
-      by_test : (b : Bool) → objs (remove_entry test es) ≡ remove_key test (objs es) → objs (cond b es (e ∷ remove_entry test es)) ≡ cond b (objs es) (e.0 ∷ remove_key test (objs es))
-      by_test true more = refl
-      by_test false more = ap (λ l. e.0 ∷ l) more
 
 -- one is taken out
 
@@ -133,9 +89,6 @@ once_ordered os h = subst IsOnce h (once_in_order os)
 pub remove_is : (o : Obj) (os : List Obj) → IsOrdered os → remove_key (is_at (order.cmp o)) os ≡ without (same_obj o) os
 remove_is o os h = remove_once o os (once_ordered os h)
 
-pub objs_taken : {T : Type 0} (o : Obj) (es : List (Obj × T)) → IsOrdered (objs es) → objs (remove_entry (is_at (order.cmp o)) es) ≡ without (same_obj o) (objs es)
-objs_taken o es h = objs_remove (is_at (order.cmp o)) es ∙ remove_is o (objs es) h
-
 -- the first that passes
 
 pub find_first : (f g : Obj → Bool) → ((x : Obj) → f x ≡ g x) → (os : List Obj) → find g os ≡ first_of (filter f os)
@@ -156,11 +109,3 @@ next_by last os part is =
     and_true : (b : Bool) → (b && true) ≡ b
     and_true true = refl
     and_true false = refl
-
--- what is at q once w is at o
-pub updated_at : {T : Type 0} (o q : Obj) (w : Option T) (old new : List (Obj × T)) →
-    lookup (is_at (order.cmp q)) new ≡ cond (is_at (order.cmp o) q) w (lookup (is_at (order.cmp q)) old) → at new q ≡ cond (same_obj q o) w (at old q)
-updated_at o q w old new is =
-    sym (lookup_is q new) ∙ is
-    ∙ (λ i. cond (at_is o q i) w (lookup_is q old i))
-    ∙ ap (λ b. cond b w (at old q)) (same_turned o q)

@@ -1,4 +1,4 @@
-//! Sets of objects, and tables of what is kept of objects, in object order.
+//! Sets of objects, in object order, and tables of what is kept of objects.
 #![tactic(auto)]
 
 mod obj_set;

@@ -9,31 +9,29 @@ ghost use Rattle.dup_model.specs.Touched.{without};
 ghost use Rattle.dup_sets.specs.Entries.{at, objs};
 
 use dup_names::{NoMemory, Obj};
+use indexmap::IndexMap;
 use std::alloc::Global;
-use std::collections::BTreeMap;
 use std::marker::Model;
 
-/// Objects in their order, each with what is kept of it.
+/// Objects, each with what is kept of it. Clauses see the entries in object order; the map has them in no
+/// order that counts. A search, an entry that comes and one that goes cost the same, on average, however
+/// many there are.
 #[derive(Drop)]
 pub struct Table<T> {
-    entries: BTreeMap<Obj, T>,
+    entries: IndexMap<Obj, T>,
 }
 
 impl<T> Model for Table<T> {
-    ghost use Rattle.std.specs.Prelude.{◌≡◌, List};
+    ghost use Rattle.std.specs.Prelude.{List};
     ghost use Rattle.std.specs.Coded.{codes};
-    ghost use Rattle.dup_names.specs.Order.{obj_cmp};
-    ghost use Rattle.dup_names.specs.Words.{in_order};
     ghost use Rattle.dup_names.specs.declared.object.Obj.{Obj};
-    ghost use Rattle.dup_sets.specs.Entries.{objs};
+    ghost use Rattle.dup_sets.specs.Entries.{by_object};
 
     ghost Value = { List (Obj × T) };
 
     ghost coded = { Prim.hlevel (codes, T.code) };
 
-    ghost view = { λ t. t.entries.entries };
-
-    ghost invariant = { λ t. in_order obj_cmp (objs t.entries.entries) ≡ objs t.entries.entries };
+    ghost view = { λ t. by_object t.entries.entries };
 }
 
 impl<T> Table<T> {
@@ -42,7 +40,7 @@ impl<T> Table<T> {
         ensures { result ≡ [] }
     {
         Table {
-            entries: BTreeMap::new(alloc),
+            entries: IndexMap::new(alloc),
         }
     }
 
@@ -52,13 +50,6 @@ impl<T> Table<T> {
         ensures rising { in_order obj_cmp (objs self.now) ≡ objs self.now }
     {
         self.entries.len()
-    }
-
-    /// The objects, in order.
-    pub fn list(&self, alloc: Global) -> Result<Vec<Obj>, NoMemory>
-        ensures { IfOk result (λ made. made.items ≡ objs self.now) }
-    {
-        Ok(self.entries.keys().copied().collect(alloc)?)
     }
 
     /// What is kept of an object.
@@ -96,7 +87,7 @@ impl<T> Table<T> {
         ensures at { (q : Obj) → at self.new q ≡ (if same_obj q obj.now then None else at self.old q) }
         ensures objs { objs self.new ≡ without (same_obj obj.now) (objs self.old) }
     {
-        self.entries.remove(obj);
+        self.entries.swap_remove(obj);
     }
 
     /// Forgets these objects.
