@@ -3,3 +3,4 @@ pub mod ByField
 pub mod EachTurns
 pub mod DerivedOrders
 pub mod Expansion
+pub mod ReadLists

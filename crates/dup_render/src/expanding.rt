@@ -7,8 +7,11 @@ ghost use Rattle.dup_model.specs.Content.{value};
 ghost use Rattle.dup_model.specs.Expansions.{expansion};
 ghost use Rattle.dup_model.specs.Jobs.{IsJob};
 ghost use Rattle.dup_model.specs.Skeletons as skeletons;
+ghost use Rattle.dup_render.specs.Lists.{AreRead};
 
 use crate::expanded::Expanded;
+use crate::lists::{Lists, take_value};
+use crate::marks::Marked;
 use crate::order::{items_in_order, paths_in_order};
 use crate::pieces::pieces;
 use crate::show::marks_of;
@@ -46,32 +49,39 @@ fn paths_linked(alloc: Global, marks: &[Mark]) -> Result<Vec<Path>, NoMemory>
     Ok(paths)
 }
 
-// Each item with its value.
+// Each item with its value, given the lists and groups that were read.
 fn with_values(
     alloc: Global,
     content: &Content,
     items: &[Item],
+    lists: Lists,
 ) -> Result<Vec<(Item, Value)>, NoMemory>
+    requires { AreRead content.now lists }
     ensures { IfOk result (λ made. made.items ≡ map (λ it. (it, value content.now it)) items.now) }
 {
+    let mut lists = lists;
     let mut notes = Vec::with_capacity(alloc, items.len())?;
     for item in items {
-        notes.push((*item, content.value(alloc, item)?))?;
+        let value = take_value(alloc, content, item, &mut lists)?;
+        notes.push((*item, value))?;
     }
     Ok(notes)
 }
 
-// What marks read, in item order, each item once, with its value.
+// What marks read, in item order, each item once, with its value, given the lists and groups that were
+// read.
 fn notes_of(
     alloc: Global,
     content: &Content,
     marks: &[Mark],
+    lists: Lists,
 ) -> Result<Vec<(Item, Value)>, NoMemory>
+    requires { AreRead content.now lists }
     ensures { IfOk result (λ made. made.items
         ≡ map (λ it. (it, value content.now it)) (in_order item_cmp (flat_map skeletons.read_by marks.now))) }
 {
     let items = items_in_order(items_read(alloc, marks)?);
-    with_values(alloc, content, &items)
+    with_values(alloc, content, &items, lists)
 }
 
 fn skeleton_of(alloc: Global, marks: &[Mark]) -> Result<Skeleton, NoMemory>
@@ -88,8 +98,9 @@ fn skeleton_of(alloc: Global, marks: &[Mark]) -> Result<Skeleton, NoMemory>
 /// read. Each success counts one expansion; a refusal counts none. Only want of memory is refused.
 ///
 /// The cost grows with what the template meets, its marks: n log n in those that read or link, and
-/// a search and the keys for each group that an `each` by a field asks for, and once more for its
-/// note. The rest of the site's rows is not gone through.
+/// a search and the keys for each group that an `each` by a field asks for. A list or a group is read of
+/// the content once, for its note and for all statements that ask for it. The rest of the site's rows is
+/// not gone through.
 pub fn expand(
     alloc: Global,
     content: &Content,
@@ -101,8 +112,8 @@ pub fn expand(
     ensures counted { OnOk result (meter.new ≡ min (meter.old + 1) (2 ^ 64 - 1)) }
     ensures refused { OnErr result (meter.new ≡ meter.old) }
 {
-    let marks = marks_of(alloc, content, obj)?;
-    let notes = notes_of(alloc, content, &marks)?;
+    let Marked { marks, lists } = marks_of(alloc, content, obj)?;
+    let notes = notes_of(alloc, content, &marks, lists)?;
     let skeleton = Arc::new(alloc, skeleton_of(alloc, &marks)?)?;
     let site = Arc::try_clone(content.site())?;
     meter.tick();

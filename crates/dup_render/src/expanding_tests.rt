@@ -38,6 +38,28 @@ page /roll roll
 family /person person_page
 ";
 
+// A template that asks twice for a group, once within itself, and twice for a list.
+const TWICE: &[u8] = b"kind event title
+kind result event place
+template event_page of event
+each result by event
+key
+end
+each result by event order place
+key
+end
+each result
+each result by event
+key
+end
+each result
+key
+end
+end
+end
+family /event event_page
+";
+
 fn text(bytes: &[u8]) -> Result<&str, Fail> {
     let text = str::from_utf8(bytes).ok().ok_or("a text")?;
     Ok(text)
@@ -231,5 +253,35 @@ link /roll
         );
     }
     assert_eq!(rt; meter.count(), 3);
+    Ok(())
+}
+
+#[test]
+fn a_group_that_is_asked_for_twice_has_its_rows_each_time(rt: HostRuntime) -> Result<(), Fail> {
+    let alloc = rt.alloc();
+    let rows: [Row; 4] = [
+        ("event", "e1", &[("title", "100m")]),
+        ("result", "e1", &[("event", "r2"), ("place", "3")]),
+        ("result", "r1", &[("event", "e1"), ("place", "2")]),
+        ("result", "r2", &[("event", "e1"), ("place", "1")]),
+    ];
+    let content = content(alloc, TWICE, &rows)?;
+    let mut meter = Meter::new();
+    let made = expanded(alloc, &content, "event_page", "e1", &mut meter)?;
+    assert_eq!(rt;
+        notes_text(alloc, &made)?.as_str(),
+        "field 1 r1 1: [2]
+field 1 r2 1: [1]
+list 1: e1 r1 r2
+group 1 0 e1: r1 r2
+group 1 0 r1:
+group 1 0 r2: e1
+template 0: body 14
+"
+    );
+    assert_eq!(rt;
+        skeleton_text(alloc, &made)?.as_str(),
+        "plain r1r2r2r1r1r2e1r1r2e1r1r2e1e1r1r2\n"
+    );
     Ok(())
 }

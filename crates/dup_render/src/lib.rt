@@ -12,6 +12,7 @@ mod expanded;
 mod expanding;
 mod here;
 mod links;
+mod lists;
 mod marks;
 mod order;
 mod pieces;

@@ -9,6 +9,7 @@ ghost use Rattle.dup_model.specs.Turns.{order_reads};
 
 use crate::escape::escape;
 use crate::here::Here;
+use crate::lists::Lists;
 use dup_lists::Listed;
 use dup_model::Mark;
 use dup_names::{Item, Key, Name, NoMemory};
@@ -17,6 +18,13 @@ use std::alloc::Global;
 
 /// The marks so far.
 pub(crate) type Marks = Vec<Mark>;
+
+/// The marks so far, and the lists and groups that were read for them.
+#[derive(Drop)]
+pub(crate) struct Marked {
+    pub(crate) marks: Marks,
+    pub(crate) lists: Lists,
+}
 
 /// Puts one mark.
 pub(crate) fn put(mark: Mark, out: &mut Marks) -> Result<(), NoMemory>

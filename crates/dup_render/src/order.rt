@@ -1,13 +1,12 @@
 // The rows of an `each` in the order of a field; what is read, and where links lead, in order.
-ghost use Rattle.std.specs.Prelude.{◌≡◌, IfOk};
+ghost use Rattle.std.specs.Prelude.{◌≡◌};
 ghost use Rattle.dup_names.specs.Order.{item_cmp, text_cmp};
 ghost use Rattle.dup_names.specs.Words as words;
 ghost use Rattle.dup_model.specs.Here as here;
 ghost use Rattle.dup_model.specs.Turns as turns;
 
-use dup_names::{Item, Key, Name, NoMemory, Path};
+use dup_names::{Item, Key, Name, Path};
 use dup_records::Content;
-use std::alloc::Global;
 use std::cmp::Ordering;
 
 fn by_field(content: &Content, kind: u16, field: u16, a: &Key, b: &Key) -> Ordering
@@ -31,20 +30,18 @@ fn in_order(content: &Content, kind: u16, field: u16, keys: Vec<Key>) -> Vec<Key
 /// The keys of rows of a kind as they are, or by a field's length, bytes and key. Each comparison
 /// finds both rows.
 pub(crate) fn rows_by(
-    alloc: Global,
     content: &Content,
     kind: u16,
     order: &Option<Name>,
-    keys: &[Key],
-) -> Result<Vec<Key>, NoMemory>
-    ensures { IfOk result (λ made. made.items ≡ turns.rows_by content.now kind order.now keys.now) }
+    keys: Vec<Key>,
+) -> Vec<Key>
+    ensures { result.items ≡ turns.rows_by content.now kind order.now keys.items }
 {
-    let copied = Vec::from_slice(alloc, keys)?;
     match order {
-        None => Ok(copied),
+        None => keys,
         Some(order) => {
             let field = content.field_number(kind, order);
-            Ok(in_order(content, kind, field, copied))
+            in_order(content, kind, field, keys)
         }
     }
 }

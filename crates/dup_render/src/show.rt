@@ -4,14 +4,16 @@ ghost use Rattle.dup_model.specs.Jobs.{IsJob};
 ghost use Rattle.dup_model.specs.Marks.{kind_from, marks};
 ghost use Rattle.dup_model.specs.Names.{kind_of};
 ghost use Rattle.dup_model.specs.Show.{show, show_below, shown};
+ghost use Rattle.dup_render.specs.Lists.{AreRead};
 
 use crate::here::Here;
-use crate::marks::{Marks, put};
+use crate::marks::{Marked, put};
 use crate::statements::put_body;
 use dup_model::Mark;
 use dup_names::{Item, NoMemory, Obj};
 use dup_records::Content;
 use std::alloc::Global;
+use std::collections::BTreeMap;
 
 // The number of a template's kind, 0 where it has none.
 fn kind_from(content: &Content, template: u16) -> u16
@@ -23,17 +25,22 @@ fn kind_from(content: &Content, template: u16) -> u16
     }
 }
 
-/// That an object's template is read, and what its statements give, up to each embedding.
-pub(crate) fn marks_of(alloc: Global, content: &Content, obj: &Obj) -> Result<Marks, NoMemory>
-    ensures { IfOk result (λ made. made.items ≡ marks content.now obj.now) }
+/// That an object's template is read, and what its statements give, up to each embedding. Each list and
+/// each group is read once.
+pub(crate) fn marks_of(alloc: Global, content: &Content, obj: &Obj) -> Result<Marked, NoMemory>
+    ensures marks { IfOk result (λ made. made.marks.items ≡ marks content.now obj.now) }
+    ensures lists { IfOk result (λ made. AreRead content.now made.lists) }
 {
     let here = Here {
         kind: kind_from(content, obj.template),
         key: obj.key,
     };
-    let mut out = Vec::new(alloc);
+    let mut out = Marked {
+        marks: Vec::new(alloc),
+        lists: BTreeMap::new(alloc),
+    };
     let template = obj.template;
-    put(Mark::Read(Item::Template { template }), &mut out)?;
+    put(Mark::Read(Item::Template { template }), &mut out.marks)?;
     let body = content.body_of(template);
     put_body(alloc, content, &here, body, &mut out)?;
     Ok(out)
@@ -71,8 +78,8 @@ fn put_shown(
 fn put_show(alloc: Global, content: &Content, obj: &Obj, out: &mut Vec<u8>) -> Result<(), NoMemory>
     ensures { OnOk result (out.new.items ≡ out.old.items ++ show content.now obj.now) }
 {
-    let marks = marks_of(alloc, content, obj)?;
-    for mark in &marks {
+    let marked = marks_of(alloc, content, obj)?;
+    for mark in &marked.marks {
         put_shown(alloc, content, obj.template, mark, out)?;
     }
     Ok(())

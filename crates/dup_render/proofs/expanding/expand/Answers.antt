@@ -11,7 +11,7 @@ of-requires c =
     subst IsGoodExpansion
     (expansion_made (frame_of c.in_ok-site.site.value) c.args.content.now c.args.obj.now c.in_ok-marks.marks.items c.in_ok-notes.notes.items c.in_ok-skeleton.skeleton.value
     framed
-    c.in_ok-marks.ensures
+    (rw (← c.in_ok-marks.marks-is) c.in_ok-marks.ensures.marks)
     (cc (c.in_ok-notes.ensures, c.deref.ensures.value))
     (cc (c.in_ok-skeleton.ensures.ok, c.in_ok-skeleton_of.ensures.pieces, c.deref-2.ensures.value))
     (cc (c.in_ok-skeleton.ensures.ok, c.in_ok-skeleton_of.ensures.links, c.deref-2.ensures.value)))
@@ -23,7 +23,7 @@ returns-clause-value c =
     rw c.of.ensures
     (sym (expansion_made (frame_of c.in_ok-site.site.value) c.args.content.now c.args.obj.now c.in_ok-marks.marks.items c.in_ok-notes.notes.items c.in_ok-skeleton.skeleton.value
     framed
-    c.in_ok-marks.ensures
+    (rw (← c.in_ok-marks.marks-is) c.in_ok-marks.ensures.marks)
     (cc (c.in_ok-notes.ensures, c.deref.ensures.value))
     (cc (c.in_ok-skeleton.ensures.ok, c.in_ok-skeleton_of.ensures.pieces, c.deref-2.ensures.value))
     (cc (c.in_ok-skeleton.ensures.ok, c.in_ok-skeleton_of.ensures.links, c.deref-2.ensures.value))))
