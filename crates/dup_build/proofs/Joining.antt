@@ -20,7 +20,7 @@ use Rattle.dup_machine.specs.World.{Work}
 use Rattle.dup_model.specs.Found.{found, waiting}
 use Rattle.dup_machine.specs.Works.{level}
 use Rattle.dup_names.proofs.ObjectOrder.{obj_same}
-use Rattle.dup_model.proofs.Objects.{filter_same, in_filter}
+use Rattle.dup_model.proofs.Objects.{IsOnce, filter_same, in_filter, once_filter, once_in_order}
 use Rattle.dup_model.proofs.Finds.{done_unless_waiting}
 use Rattle.dup_build.specs.declared.node.Node.{Node}
 use Rattle.dup_build.specs.declared.node.Shown.{Shown}
@@ -34,7 +34,7 @@ use Rattle.dup_build.specs.Stock.{IsStock}
 use Rattle.dup_build.specs.Stocked.{Stocked, waiting_in, unjoined_in, level_in}
 use Rattle.dup_machine.proofs.Closing.{closed_once_joined, level_leaves}
 use Rattle.dup_sets.proofs.Entries.{at_in}
-use Rattle.dup_machine.proofs.InOrder.{in_without}
+use Rattle.dup_machine.proofs.InOrder.{in_without, ordered_found}
 use Rattle.dup_sets.proofs.Sets.{taken_within}
 
 and_first : (a b : Bool) → (a && b) ≡ true → a ≡ true
@@ -50,6 +50,10 @@ pub level_is : (s : Stocked) → waiting_in s ≡ [] → filter (λ o. list_all 
 level_is s calm = filter_same (λ o. list_all (is_in s.looked) (opened s.content s.done o)) (λ o. list_all (is_in s.looked) (embeds s.content o)) (unjoined_in s) (λ o h.
     let here : is_in (found s.content s.done) o ≡ true = and_first (is_in (found s.content s.done) o) (not (is_in s.looked o)) (sym (in_without (is_in s.looked) (found s.content s.done) o) ∙ h) in
     ap (λ b. list_all (is_in s.looked) (cond b (embeds s.content o) [])) (done_unless_waiting s.content s.done calm o here))
+
+-- a level has each object once
+pub level_once : (s : Stocked) → IsOnce (level_in s)
+level_once s = once_filter (λ o. list_all (is_in s.looked) (embeds s.content o)) (unjoined_in s) (once_filter (λ o. not (is_in s.looked o)) (found s.content s.done) (subst IsOnce (ordered_found s.content s.done) (once_in_order (found s.content s.done))))
 
 -- what is in a level has no look yet
 pub level_apart : (s : Stocked) (o : Obj) → is_in (level_in s) o ≡ true → is_in s.looked o ≡ false

@@ -18,3 +18,4 @@ pub mod Holding
 pub mod Leaving
 pub mod Starting
 pub mod Paging
+pub mod Counting

@@ -97,7 +97,7 @@ in_itself (p ∷ ps) =
 
 module _ (c : Content) (earlier : EmbedsEarlier c) (done looked : List Obj) (joined : without (is_in looked) (found c done) ≡ []) where
   -- where all that is found has a look, so has each page's object
-  pages_looked : All (λ (p : Path × Obj). is_in looked p.1 ≡ true) (pages c)
+  pub pages_looked : All (λ (p : Path × Obj). is_in looked p.1 ≡ true) (pages c)
   pages_looked =
       All-weaker (λ (p : Path × Obj). is_in (map (λ (p : Path × Obj). p.1) (pages c)) p.1 ≡ true) (λ (p : Path × Obj). is_in looked p.1 ≡ true)
       (λ p h. all_passed (is_in looked) (found c done) joined p.1 ((found_is_found c done p.1 earlier).1 (of_page h)))

@@ -9,6 +9,12 @@ use Rattle.dup_build.specs.Paths.{AreTouched, SameElsewhere}
 use Rattle.dup_build.specs.Targets.{looks_of}
 use Rattle.dup_build.specs.declared.answers.Closing.{Closing}
 
+-- a work is open whose found objects all have looks
+pub record CanClose (b : Built) : Type 0 where
+  pub busy : IsSome b.works.work
+  pub calm : waiting_by b.works.content b.works.work ≡ []
+  pub joined : unjoined_by b.works.content b.works.work ≡ []
+
 -- a work is open whose found objects all have looks; the target is that of its content and version, and its
 -- paths rise; these are the touched paths in order, away from which it is as the last one
 pub record IsClosing (b : Built) (c : Closing) : Type 0 where

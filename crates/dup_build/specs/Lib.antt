@@ -10,3 +10,4 @@ pub mod Build
 pub mod Closing
 pub mod Loose
 pub mod Paged
+pub mod Missing

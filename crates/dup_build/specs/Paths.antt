@@ -1,6 +1,7 @@
 -- The paths at which a target may have another look than the last one.
 use Rattle.std.specs.Prelude.{◌≡◌, ◌&&◌, Bool, true, false, not, List, map, Option, Some, None}
 use Rattle.std.specs.FinMap as fin
+use Rattle.std.specs.List.{All}
 use Rattle.dup_names.specs.Order.{text_cmp}
 use Rattle.dup_names.specs.declared.object.Obj.{Obj}
 use Rattle.dup_names.specs.declared.value.Look.{Look}
@@ -28,6 +29,14 @@ SameElsewhere paths old new = (p : Path) → has paths p ≡ false → fin.find 
 -- the looks of these pages
 abbrev pub looks_in : List (Path × Look) → List Look
 looks_in pages = map (λ p. p.1) pages
+
+-- each of these pages shows an object that has a look
+abbrev pub AreLooked : List Obj → List (Path × Obj) → Type 0
+AreLooked looked pages = All (λ p. is_in looked p.1 ≡ true) pages
+
+-- these pages with their objects' looks at a content
+abbrev pub looks_shown : Content → List (Path × Obj) → List (Path × Look)
+looks_shown c pages = map (λ p. (p.0, look c p.1)) pages
 
 -- the look of an object that has one, which the work didn't join, is the object's at the content
 abbrev pub IsCurrent : Content → List Obj → List Obj → Look → Type 0

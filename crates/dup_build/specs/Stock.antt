@@ -1,5 +1,5 @@
 -- How a stock is kept.
-use Rattle.std.specs.Prelude.{◌≡◌, List, [], IsTrue}
+use Rattle.std.specs.Prelude.{◌≡◌, ℕ, List, [], IsTrue}
 use Rattle.std.specs.Option.{ForSome}
 use Rattle.dup_names.specs.declared.object.Obj.{Obj}
 use Rattle.dup_template.specs.Paths.{KeyOk}
@@ -16,6 +16,7 @@ use Rattle.dup_build.specs.declared.survey.Survey.{Survey}
 use Rattle.dup_machine.specs.Closed.{IsClosed}
 use Rattle.dup_sets.specs.Entries.{at, objs}
 use Rattle.dup_build.specs.Loose.{shown_by, HoldsBut}
+use Rattle.dup_build.specs.Missing.{AreCounts}
 use Rattle.dup_build.specs.Nodes.{IsNode}
 
 -- each node and each look is the object's own at the content, the pages and the sets are those that a work has
@@ -31,3 +32,10 @@ pub record IsStock
   pub held : HoldsBut (shown_by o.pages.value) nodes [] o.loose
   pub keyed : (x : Obj) → IsTrue (is_in (objs nodes) x) → KeyOk x.key
   pub keys : KeysAreKeys c
+
+-- and of each found object without a look it is known how many of its children have none
+pub record IsCounted
+    (c : Content) (nodes : List (Obj × Node)) (looks : List (Obj × Shown)) (o : Survey) (missing : List (Obj × ℕ))
+    : Type 0 where
+  pub stock : IsStock c nodes looks o
+  pub counts : AreCounts nodes (objs looks) o.unjoined missing

@@ -20,7 +20,7 @@ ghost use Rattle.dup_names.specs.Order.{text_cmp};
 ghost use Rattle.dup_build.specs.Paths.{AreTouched, SameElsewhere};
 ghost use Rattle.dup_build.specs.Targets.{looks_of};
 ghost use Rattle.dup_build.specs.Built as built;
-ghost use Rattle.dup_build.specs.Closing.{IsClosing};
+ghost use Rattle.dup_build.specs.Closing.{CanClose, IsClosing};
 
 use crate::answers::{Begun, Closing, Finish, Joined, Put};
 use crate::hits::{hits_of, rows_change};
@@ -28,9 +28,9 @@ use crate::job::Job;
 use crate::keyed::commits_keyed;
 use crate::levels::{level_looks, level_of, plan};
 use crate::node::Node;
-use crate::paths::{pages_of, touched_paths};
 use crate::reads::{drop_all, put_node};
 use crate::stock::{Stock, expansion_known};
+use crate::turning::{pages_of, turn_pages};
 use crate::values::copy_value;
 use dup_graph::Graph;
 use dup_lists::Listed;
@@ -421,7 +421,7 @@ impl Build {
         self.once.len();
         let fresh = self.once.lacking(alloc, level)?;
         self.once.add_all(&fresh)?;
-        let Err(refused) = self.stock.join(level, looks) else {
+        let Err(refused) = self.stock.join(&self.graph, level, looks) else {
             self.joined = self.joined.saturating_add(level.len() as u64);
             self.next = plan(alloc, &self.stock, &self.graph, level);
             return Ok(());
@@ -448,9 +448,9 @@ impl Build {
     /// Gives looks to all found objects without one whose embedded objects all have looks, in as many
     /// threads as there are processors. The answer is the same for any number of threads.
     ///
-    /// The cost is that of joining the level, and a search for each object that embeds one of it and for
-    /// what that embeds, until one has no look. The first level of a work, or one after memory ran out,
-    /// costs that search for each found object without a look.
+    /// The cost is that of joining the level, and a search or two for each object that embeds one of it, of
+    /// which it is known how many of its children have no look. The first level of a work, or one after
+    /// memory ran out, costs a search for each found object without a look.
     pub fn join(&mut self, rt: &(impl Threads + Sync), alloc: Global) -> Result<Joined, NoMemory>
         ensures told { IfOk result (λ told. joined_told told ≡ (built.joins self.old.works).0) }
         ensures build { OnOk result (self.new ≡ built.with_works (built.joins self.old.works).1 self.old) }
@@ -476,27 +476,30 @@ impl Build {
         requires joined { built.unjoined_by self.now.works.content self.now.works.work ≡ [] }
         ensures { IfOk result (IsClosing self.now) }
     {
-        let last = pages_of(&self.target);
-        let target = self.stock.target(alloc, self.version, last, &self.once)?;
         self.stock.content();
-        let touched = touched_paths(alloc, last, target.pages.items(), &self.once)?;
+        let turned = turn_pages(alloc, &self.stock, pages_of(&self.target), &self.once)?;
         Ok(Closing {
-            target,
-            touched: Listed::of(touched),
+            target: Target {
+                version: self.version,
+                pages: Listed::of(turned.pages),
+            },
+            touched: Listed::of(turned.touched),
         })
     }
 
     /// What closing the open work comes to, where all that is found has a look; else what `finish` answers.
     /// Nothing is changed, and a work that can't be closed takes no memory.
     ///
-    /// The cost is that of two walks over the pages and the last target's, side by side, and of a search
-    /// for each that isn't as it was; no bytes are compared or copied.
+    /// The cost is that of one walk over the pages and the last target's, side by side, with a search in what
+    /// the work joined for each, and of a search for each page that isn't as it was; no looks are compared or
+    /// copied.
     pub fn closing(&self, alloc: Global) -> Result<Result<Closing, Finish>, NoMemory>
         ensures closing { IfOk result (λ told. IfOk told (IsClosing self.now)) }
         ensures told { IfOk result (λ told. IfErr told (λ finish. finish_told finish
             ≡ (built.finished self.now.works).0)) }
         ensures stays { IfOk result (λ told. IfErr told (λ finish. IsUnclosed finish
             × (built.closed (built.finished self.now.works) self.now ≡ self.now))) }
+        ensures memory { OnErr result (CanClose self.now) }
     {
         if !self.is_open {
             return Ok(Err(Finish::Idle));
@@ -546,9 +549,10 @@ impl Build {
     /// Closes the open work, where all that is found has a look: its looks are the target. A report
     /// tells the touched paths in path order, away from which the target is as it was.
     ///
-    /// The cost is that of two walks over the pages and the last target's, side by side, and of a search for
-    /// each that isn't as it was, for what the work joined and for what may have come loose since the last target; no
-    /// bytes are compared or copied.
+    /// The cost is that of one walk over the pages and the last target's, side by side, with a search in what
+    /// the work joined for each, and of a search for each page that isn't as it was, for what the work joined
+    /// and for what may have come loose since the last target; no looks are compared or copied. A work that
+    /// can't be closed takes no memory.
     pub fn finish(&mut self, alloc: Global) -> Result<Finish, NoMemory>
         ensures told { IfOk result (λ told. finish_told told ≡ (built.finished self.old.works).0) }
         ensures touched { IfOk result (λ told. ForTouched told
@@ -557,6 +561,7 @@ impl Build {
         ensures elsewhere { IfOk result (λ told. ForTouched told (λ paths.
             SameElsewhere paths self.old.pages self.new.pages)) }
         ensures build { OnOk result (self.new ≡ built.closed (built.finished self.old.works) self.old) }
+        ensures memory { OnErr result (CanClose self.old) }
         ensures err { OnErr result (self.new ≡ self.old) }
     {
         match self.closing(alloc)? {

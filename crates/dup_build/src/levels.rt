@@ -54,8 +54,7 @@ fn parents_of(alloc: Global, graph: &Graph, level: &[Obj]) -> Result<Vec<Obj>, N
 }
 
 /// The next level once a level is joined, where none waits: it stands among the objects that embed one of
-/// that level. `None` where memory runs out. The cost is a search for each of these, and for what it
-/// embeds, until one has no look.
+/// that level. `None` where memory runs out. The cost is a search for each of these.
 pub(crate) fn plan(alloc: Global, stock: &Stock, graph: &Graph, level: &[Obj]) -> Option<Vec<Obj>>
     requires calm { waiting_in stock.now ≡ [] }
     requires reads { HasReads stock.now.content stock.now.done graph.now }

@@ -8,13 +8,14 @@ mod job;
 mod keyed;
 mod levels;
 mod loose;
+mod missing;
 mod node;
 mod paged;
-mod paths;
 mod reach;
 mod reads;
 mod stock;
 mod survey;
+mod turning;
 mod values;
 
 pub use answers::{Begun, Closing, Finish, Joined, Put};

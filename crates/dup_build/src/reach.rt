@@ -10,7 +10,8 @@ use dup_names::{NoMemory, Obj};
 use dup_sets::{ObjSet, Table};
 use std::alloc::Global;
 
-fn children<'a>(nodes: &'a Table<Node>, dropped: &ObjSet, obj: &Obj) -> &'a [Obj]
+/// What an object embeds through a node that isn't dropped.
+pub(crate) fn children<'a>(nodes: &'a Table<Node>, dropped: &ObjSet, obj: &Obj) -> &'a [Obj]
     ensures { result.now ≡ below nodes.now dropped.now obj.now }
 {
     if dropped.contains(obj) {

@@ -19,11 +19,10 @@ ghost use Rattle.std.specs.List.{All, filter, list_all, list_any};
 ghost use Rattle.dup_model.specs.Looks.{look};
 ghost use Rattle.dup_model.specs.Skeletons.{embeds};
 ghost use Rattle.dup_join.specs.Jobs.{look_of};
-ghost use Rattle.dup_model.specs.Pages.{live, page_looks, pages};
+ghost use Rattle.dup_model.specs.Pages.{live, pages};
 ghost use Rattle.dup_sets.specs.Entries.{objs};
-ghost use Rattle.dup_build.specs.Targets.{looks_by_path, looks_of};
 ghost use Rattle.dup_build.specs.Looked.{look_at, last_look};
-ghost use Rattle.dup_build.specs.Paths.{looks_in, IsCurrent};
+ghost use Rattle.dup_build.specs.Paths.{AreLooked};
 ghost use Rattle.dup_build.specs.Nodes.{IsNode};
 ghost use Rattle.dup_machine.specs.Closed.{IsClosed};
 ghost use Rattle.dup_machine.specs.Reached.{Reached, opened};
@@ -32,31 +31,32 @@ ghost use Rattle.dup_walk.specs.OverReads.{HasReads};
 
 use crate::job::Job;
 use crate::loose::unheld;
-use crate::node::{Node, Shown, node_children};
-use crate::paths::Page;
+use crate::missing::{count_missing, count_new, lower_above};
+use crate::node::{Node, Shown};
 use crate::reach::reach;
 use crate::survey::Survey;
 use crate::values::first_stale;
 use dup_graph::Graph;
 use dup_join::JoinJob;
 use dup_lists::Listed;
-use dup_names::{Item, Key, Look, NoMemory, Obj};
+use dup_names::{Item, Key, Look, NoMemory, Obj, Path};
 use dup_records::Content;
-use dup_render::{Expanded, Target};
+use dup_render::Expanded;
 use dup_sets::{ObjSet, Table};
 use dup_template::Value;
 use std::alloc::Global;
 use std::marker::Model;
 use std::sync::Arc;
 
-/// The skeletons of a content's objects that are done, the looks of those that have one, and what
-/// a work finds at the content and has left to do.
+/// The skeletons of a content's objects that are done, the looks of those that have one, what a work
+/// finds at the content and has left to do, and how many children of what has no look have none.
 #[derive(Drop)]
 pub(crate) struct Stock {
     content: Content,
     nodes: Table<Node>,
     looks: Table<Shown>,
     progress: Survey,
+    missing: Table<u64>,
 }
 
 impl Model for Stock {
@@ -64,7 +64,7 @@ impl Model for Stock {
     ghost use Rattle.dup_template.specs.contracts.statement.Statement as statement;
     ghost use Rattle.dup_sets.specs.Entries.{objs};
     ghost use Rattle.dup_build.specs.Stocked.{Stocked};
-    ghost use Rattle.dup_build.specs.Stock.{IsStock};
+    ghost use Rattle.dup_build.specs.Stock.{IsCounted};
 
     ghost Value = { Stocked };
 
@@ -72,7 +72,7 @@ impl Model for Stock {
 
     ghost view = { λ a. record { content = a.content; done = objs a.nodes; looked = objs a.looks } };
 
-    ghost invariant = { λ a. IsStock a.content a.nodes a.looks a.progress };
+    ghost invariant = { λ a. IsCounted a.content a.nodes a.looks a.progress a.missing };
 }
 
 fn site_known(content: &Content)
@@ -117,17 +117,6 @@ fn count_in<T>(among: &[Obj], table: &Table<T>) -> usize
     ensures { result ≡ length (filter (is_in (objs table.now)) among.now) }
 {
     among.iter().filter(|obj| table.has(obj)).count()
-}
-
-fn all_in<T>(found: &[Obj], table: &Table<T>) -> bool
-    ensures { result ≡ list_all (is_in (objs table.now)) found.now }
-{
-    for obj in found {
-        if !table.has(obj) {
-            return false;
-        }
-    }
-    true
 }
 
 fn add_look(looks: &mut Table<Shown>, look: &Arc<Look, Global>) -> Result<(), NoMemory>
@@ -193,6 +182,7 @@ impl Stock {
             nodes,
             looks,
             progress,
+            missing: Table::new(alloc),
         })
     }
 
@@ -231,6 +221,16 @@ impl Stock {
             stale,
             same_pages,
         )?;
+        let mut missing = Table::new(alloc);
+        let unjoined = progress.unjoined.list(alloc)?;
+        count_missing(
+            &mut missing,
+            &self.nodes,
+            dropped,
+            &self.looks,
+            stale,
+            &unjoined,
+        )?;
         let dropped = dropped.list(alloc)?;
         let stale = stale.list(alloc)?;
         let content = content.copy(alloc)?;
@@ -238,6 +238,7 @@ impl Stock {
         self.looks.remove_all(&stale);
         self.content = content;
         self.progress = progress;
+        self.missing = missing;
         Ok(())
     }
 
@@ -341,7 +342,7 @@ impl Stock {
     }
 
     // Puts in the node of a waiting object, and what is found by it.
-    fn put_in(&mut self, obj: Obj, node: Node, news: &News) -> Result<(), NoMemory>
+    fn put_in(&mut self, alloc: Global, obj: Obj, node: Node, news: &News) -> Result<(), NoMemory>
         requires waits { IsTrue (is_in (waiting_in self.old) obj) }
         requires keyed { KeyOk obj.key }
         requires node { IsNode self.old.content obj node }
@@ -355,6 +356,15 @@ impl Stock {
         ensures err { OnErr result (self.new ≡ self.old) }
     {
         site_known(&self.content);
+        count_new(
+            alloc,
+            &mut self.missing,
+            &self.nodes,
+            &self.looks,
+            &obj,
+            &node,
+            news.unjoined.items(),
+        )?;
         self.nodes.add(obj, node)?;
         let Err(refused) = self
             .progress
@@ -380,14 +390,19 @@ impl Stock {
         let obj = *node.expanded.obj();
         key_known(&obj.key);
         let news = self.news(alloc, &node)?;
-        self.put_in(obj, node, &news)
+        self.put_in(alloc, obj, node, &news)
     }
 
-    // Whether all that an object embeds has looks.
+    // Whether all that a done object embeds has looks, where it is found without one.
     fn is_ready(&self, obj: &Obj) -> bool
+        requires unjoined { IsTrue (is_in (unjoined_in self.now) obj.now) }
+        requires done { IsTrue (is_in self.now.done obj.now) }
         ensures { result ≡ list_all (is_in self.now.looked) (opened self.now.content self.now.done obj.now) }
     {
-        all_in(node_children(&self.nodes, obj), &self.looks)
+        match self.missing.get(obj) {
+            None => false,
+            Some(count) => *count == 0,
+        }
     }
 
     // Whether an object stands in the next level.
@@ -398,8 +413,7 @@ impl Stock {
         self.progress.unjoined.contains(obj) && self.is_ready(obj)
     }
 
-    /// Those of these objects that stand in the next level. The cost is a search for each of them, and
-    /// for what it embeds, until one has no look.
+    /// Those of these objects that stand in the next level. The cost is a search for each of them.
     pub(crate) fn next_among(&self, alloc: Global, objs: &[Obj]) -> Result<Vec<Obj>, NoMemory>
         requires { waiting_in self.now ≡ [] }
         ensures { IfOk result (λ made. made.items ≡ filter (is_in (level_in self.now)) objs.now) }
@@ -455,13 +469,16 @@ impl Stock {
     }
 
     /// Puts in the looks of a level: all of them, or none. Each object of the level that is next then
-    /// embeds one of this level. The cost is that of the level.
+    /// embeds one of this level. The cost is that of the level, and of a search for each object that embeds one
+    /// of it.
     pub(crate) fn join(
         &mut self,
+        graph: &Graph,
         level: &[Obj],
         looks: &[Arc<Look, Global>],
     ) -> Result<(), NoMemory>
         requires calm { waiting_in self.old ≡ [] }
+        requires reads { HasReads self.old.content self.old.done graph.now }
         requires level { level.now ≡ level_in self.old }
         requires looks { map (λ l. l.value) looks.now ≡ map (look self.old.content) level.now }
         ensures ok { OnOk result (self.new
@@ -472,6 +489,7 @@ impl Stock {
     {
         add_looks(&mut self.looks, level, looks)?;
         self.progress.unjoined.remove_all(level);
+        lower_above(&mut self.missing, graph, level);
         Ok(())
     }
 
@@ -501,6 +519,7 @@ impl Stock {
         self.nodes.remove_all(&gone);
         self.looks.remove_all(&gone);
         self.progress.loose = ObjSet::new(alloc);
+        self.missing = Table::new(alloc);
         Ok(gone)
     }
 
@@ -511,13 +530,23 @@ impl Stock {
         self.nodes.len()
     }
 
-    // The look of an object that has one.
-    fn look(&self, obj: &Obj) -> Result<Arc<Look, Global>, NoMemory>
+    /// The look of an object that has one.
+    pub(crate) fn look(&self, obj: &Obj) -> Result<Arc<Look, Global>, NoMemory>
         requires { IsTrue (is_in self.now.looked obj.now) }
         ensures { IfOk result (λ made. made.value ≡ look self.now.content obj.now) }
     {
         let shown = self.looks.get(obj).unwrap();
         Ok(Arc::try_clone(&shown.look)?)
+    }
+
+    /// The pages, in path order, where all that is found has a look.
+    pub(crate) fn pages(&self) -> &[(Path, Obj)]
+        requires { unjoined_in self.now ≡ [] }
+        ensures pages { result.now ≡ pages self.now.content }
+        ensures looked { AreLooked self.now.looked result.now }
+    {
+        site_known(&self.content);
+        self.progress.pages.items()
     }
 
     /// How many objects that have skeletons aren't among these, which are in object order. The cost is a
@@ -527,59 +556,5 @@ impl Stock {
         ensures { result ≡ length (without (is_in once.now) self.now.done) }
     {
         self.nodes.len() - count_in(once, &self.nodes)
-    }
-
-    // The look of a page's object: that of the last target at this place, where it is the same object, which the
-    // work didn't join; else the kept one.
-    fn page_look(
-        &self,
-        obj: &Obj,
-        last: &[Page],
-        at: usize,
-        once: &ObjSet,
-    ) -> Result<Arc<Look, Global>, NoMemory>
-        requires looked { IsTrue (is_in self.now.looked obj.now) }
-        requires shown { All (IsCurrent self.now.content self.now.looked once.now)
-            (looks_in (looks_by_path last.now)) }
-        ensures { IfOk result (λ made. made.value ≡ look self.now.content obj.now) }
-    {
-        if at < last.len() {
-            let shown = &last[at].1;
-            if shown.obj == *obj && !once.contains(obj) {
-                let look = Arc::try_clone(shown)?;
-                return Ok(look);
-            }
-        }
-        let look = self.look(obj)?;
-        Ok(look)
-    }
-
-    /// The target of a version: the look of each page in path order, where all that is found has a
-    /// look. The looks of the last target are taken where they are still those of their objects. The cost is
-    /// that of a comparison for each page, and of a search where it isn't as it was.
-    pub(crate) fn target(
-        &self,
-        alloc: Global,
-        version: u64,
-        last: &[Page],
-        once: &ObjSet,
-    ) -> Result<Target, NoMemory>
-        requires joined { unjoined_in self.now ≡ [] }
-        requires shown { All (IsCurrent self.now.content self.now.looked once.now)
-            (looks_in (looks_by_path last.now)) }
-        ensures version { IfOk result (λ made. made.version ≡ version) }
-        ensures looks { IfOk result (λ made. looks_of made ≡ page_looks self.now.content) }
-    {
-        site_known(&self.content);
-        let pages = self.progress.pages.items();
-        let mut out = Vec::with_capacity(alloc, pages.len())?;
-        for (at, page) in pages.iter().enumerate() {
-            let look = self.page_look(&page.1, last, at, once)?;
-            out.push((page.0, look))?;
-        }
-        Ok(Target {
-            version,
-            pages: Listed::of(out),
-        })
     }
 }

@@ -1,6 +1,6 @@
 // What is kept of objects.
-ghost use Rattle.std.specs.Prelude.{◌≡◌, ◌∷◌, [], None, Some, IfOk, OnOk, OnErr, length, if◌then◌else◌};
-ghost use Rattle.std.specs.Option.{option_copied};
+ghost use Rattle.std.specs.Prelude.{◌≡◌, ◌-◌, ◌∷◌, [], None, Some, IfOk, OnOk, OnErr, length, if◌then◌else◌};
+ghost use Rattle.std.specs.Option.{option_copied, option_map};
 ghost use Rattle.dup_names.specs.Order.{obj_cmp};
 ghost use Rattle.dup_names.specs.Words.{in_order};
 ghost use Rattle.dup_names.specs.declared.object.Obj.{Obj};
@@ -99,6 +99,18 @@ impl<T> Table<T> {
     {
         for obj in gone {
             self.remove(obj);
+        }
+    }
+}
+
+impl Table<u64> {
+    /// Lowers the number of an object by one, where there is one above 0.
+    pub fn lower(&mut self, obj: &Obj)
+        ensures { (q : Obj) → at self.new q ≡ (if same_obj q obj.now
+            then option_map (λ n. n - 1) (at self.old q) else at self.old q) }
+    {
+        if let Some(number) = self.entries.get_mut(obj) {
+            *number = number.saturating_sub(1);
         }
     }
 }

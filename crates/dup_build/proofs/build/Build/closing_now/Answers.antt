@@ -17,49 +17,50 @@ use Rattle.dup_build.proofs.Builds.{open_from}
 use Rattle.dup_model.specs.Found.{found}
 use Rattle.dup_build.proofs.build.Build.closing_now.Goals as goal
 
-pub target-requires-clause-shown : goal.target-requires-clause-shown
-target-requires-clause-shown c =
+pub turn_pages-requires-clause-joined : goal.turn_pages-requires-clause-joined
+turn_pages-requires-clause-joined c =
     let open_is : c.self.inside.is_open ≡ true = open_from c.self.inside.is_open (work_in c.self.inside) c.args.self.now.works.work (ap (λ (b : Built). b.works.work) c.self.view_is) c.requires.busy in
-    subst (λ pages. All (IsCurrent c.self.inside.stock.content c.self.inside.stock.looked c.self.inside.once) (looks_in pages)) (sym c.pages_of-last.ensures)
+    ap (λ (o : Bool). unjoined_by c.self.inside.stock.content (cond o (Some (work_in c.self.inside)) None)) (sym open_is)
+    ∙ ap (λ (b : Built). unjoined_by b.works.content b.works.work) c.self.view_is ∙ c.requires.joined
+
+pub turn_pages-requires-clause-rising : goal.turn_pages-requires-clause-rising
+turn_pages-requires-clause-rising c = ap (is_sorted text_cmp) c.pages_of.ensures ∙ c.self.invariant.rising
+
+pub turn_pages-requires-clause-shown : goal.turn_pages-requires-clause-shown
+turn_pages-requires-clause-shown c =
+    let open_is : c.self.inside.is_open ≡ true = open_from c.self.inside.is_open (work_in c.self.inside) c.args.self.now.works.work (ap (λ (b : Built). b.works.work) c.self.view_is) c.requires.busy in
+    subst (λ pages. All (IsCurrent c.self.inside.stock.content c.self.inside.stock.looked c.self.inside.once) (looks_in pages)) (sym c.pages_of.ensures)
     (subst (λ (o : Bool). All (IsCurrent c.self.inside.stock.content c.self.inside.stock.looked (cond o c.self.inside.once [])) (looks_in (pages_in c.self.inside.target))) open_is c.self.invariant.shown)
-
-pub touched_paths-requires-clause-old : goal.touched_paths-requires-clause-old
-touched_paths-requires-clause-old c = ap (is_sorted text_cmp) c.pages_of-last.ensures ∙ c.self.invariant.rising
-
-pub touched_paths-requires-clause-new : goal.touched_paths-requires-clause-new
-touched_paths-requires-clause-new c = ap (is_sorted text_cmp) (ap looks_by_path c.items.ensures ∙ c.in_ok-target.ensures.looks) ∙ page_looks_rise c.self.inside.stock.content
 
 pub returns : goal.returns
 returns c =
     let open_is : c.self.inside.is_open ≡ true = open_from c.self.inside.is_open (work_in c.self.inside) c.args.self.now.works.work (ap (λ (b : Built). b.works.work) c.self.view_is) c.requires.busy in
+    let work_is : c.args.self.now.works.work ≡ Some (work_in c.self.inside) = ap (λ (b : Built). b.works.work) (sym c.self.view_is) ∙ ap (λ (o : Bool). cond o (Some (work_in c.self.inside)) None) open_is in
+    let looks : looks_by_path c.of.result ≡ page_looks c.self.inside.stock.content = ap looks_by_path c.of.ensures ∙ c.in_ok-turned.ensures.pages in
+    let touched : AreTouched c.self.inside.once (pages_in c.self.inside.target) (page_looks c.self.inside.stock.content) c.in_ok-turned.turned.touched.items =
+    subst (λ pages. AreTouched c.self.inside.once pages (page_looks c.self.inside.stock.content) c.in_ok-turned.turned.touched.items) c.pages_of.ensures c.in_ok-turned.ensures.touched in
     record {
       busy = c.requires.busy;
       calm = c.requires.calm;
       joined = c.requires.joined;
-      version = c.in_ok-target.ensures.version ∙ ap (λ (b : Built). b.works.version) c.self.view_is;
-      looks = c.in_ok-target.ensures.looks ∙ ap (λ (b : Built). page_looks b.works.content) c.self.view_is;
-      rising = ap (is_sorted text_cmp) c.in_ok-target.ensures.looks ∙ page_looks_rise c.self.inside.stock.content;
+      version = ap (λ (b : Built). b.works.version) c.self.view_is;
+      looks = looks ∙ ap (λ (b : Built). page_looks b.works.content) c.self.view_is;
+      rising = ap (is_sorted text_cmp) looks ∙ page_looks_rise c.self.inside.stock.content;
       touched =
-          let work_is : c.args.self.now.works.work ≡ Some (work_in c.self.inside) = ap (λ (b : Built). b.works.work) (sym c.self.view_is) ∙ ap (λ (o : Bool). cond o (Some (work_in c.self.inside)) None) open_is in
-          let old : looks_by_path c.pages_of-last.result.now ≡ c.args.self.now.pages = c.pages_of-last.ensures ∙ ap (λ (b : Built). b.pages) c.self.view_is in
-          let new : looks_by_path c.items.result.now ≡ looks_of c.in_ok-target.target = ap looks_by_path c.items.ensures in
-          subst (λ (ps : List Path). AreTouched (once_by c.args.self.now.works.work) c.args.self.now.pages (looks_of c.in_ok-target.target) ps) (sym c.of.ensures)
-          (subst (λ os. AreTouched os c.args.self.now.pages (looks_of c.in_ok-target.target) c.in_ok-touched.touched.items) (sym (ap once_by work_is))
-          (subst (λ pages. AreTouched c.self.inside.once c.args.self.now.pages pages c.in_ok-touched.touched.items) new
-          (subst (λ pages. AreTouched c.self.inside.once pages (looks_by_path c.items.result.now) c.in_ok-touched.touched.items) old c.in_ok-touched.ensures.touched)));
-      order = subst (IsStrictlySortedBy text_cmp) (sym c.of.ensures) c.in_ok-touched.ensures.order;
+          subst (λ (ps : List Path). AreTouched (once_by c.args.self.now.works.work) c.args.self.now.pages (looks_by_path c.of.result) ps) (sym c.of-2.ensures)
+          (subst (λ os. AreTouched os c.args.self.now.pages (looks_by_path c.of.result) c.in_ok-turned.turned.touched.items) (sym (ap once_by work_is))
+          (subst (λ pages. AreTouched c.self.inside.once c.args.self.now.pages pages c.in_ok-turned.turned.touched.items) (sym looks)
+          (subst (λ pages. AreTouched c.self.inside.once pages (page_looks c.self.inside.stock.content) c.in_ok-turned.turned.touched.items) (ap (λ (b : Built). b.pages) c.self.view_is) touched)));
+      order = subst (IsStrictlySortedBy text_cmp) (sym c.of-2.ensures) c.in_ok-turned.ensures.order;
       elsewhere =
           let joined : without (is_in c.self.inside.stock.looked) (found c.self.inside.stock.content c.self.inside.stock.done) ≡ [] =
           ap (λ (o : Bool). unjoined_by c.self.inside.stock.content (cond o (Some (work_in c.self.inside)) None)) (sym open_is)
           ∙ ap (λ (b : Built). unjoined_by b.works.content b.works.work) c.self.view_is ∙ c.requires.joined in
           let shown : All (IsCurrent c.self.inside.stock.content c.self.inside.stock.looked c.self.inside.once) (looks_in (pages_in c.self.inside.target)) =
           subst (λ (o : Bool). All (IsCurrent c.self.inside.stock.content c.self.inside.stock.looked (cond o c.self.inside.once [])) (looks_in (pages_in c.self.inside.target))) open_is c.self.invariant.shown in
-          let touched : AreTouched c.self.inside.once (pages_in c.self.inside.target) (page_looks c.self.inside.stock.content) c.in_ok-touched.touched.items =
-          subst (λ pages. AreTouched c.self.inside.once pages (page_looks c.self.inside.stock.content) c.in_ok-touched.touched.items) c.pages_of-last.ensures
-          (subst (λ pages. AreTouched c.self.inside.once (looks_by_path c.pages_of-last.result.now) pages c.in_ok-touched.touched.items) (ap looks_by_path c.items.ensures ∙ c.in_ok-target.ensures.looks) c.in_ok-touched.ensures.touched) in
-          subst (λ (ps : List Path). SameElsewhere ps c.args.self.now.pages (looks_of c.in_ok-target.target)) (sym c.of.ensures)
-          (subst (λ pages. SameElsewhere c.in_ok-touched.touched.items pages (looks_of c.in_ok-target.target)) (ap (λ (b : Built). b.pages) c.self.view_is)
-          (subst (λ pages. SameElsewhere c.in_ok-touched.touched.items (pages_in c.self.inside.target) pages) (sym c.in_ok-target.ensures.looks)
+          subst (λ (ps : List Path). SameElsewhere ps c.args.self.now.pages (looks_by_path c.of.result)) (sym c.of-2.ensures)
+          (subst (λ pages. SameElsewhere c.in_ok-turned.turned.touched.items pages (looks_by_path c.of.result)) (ap (λ (b : Built). b.pages) c.self.view_is)
+          (subst (λ pages. SameElsewhere c.in_ok-turned.turned.touched.items (pages_in c.self.inside.target) pages) (sym looks)
           (current_elsewhere c.self.inside.stock.content c.content.ensures.earlier c.self.inside.stock.done c.self.inside.stock.looked joined c.self.inside.once (pages_in c.self.inside.target)
-          c.in_ok-touched.touched.items shown touched)));
+          c.in_ok-turned.turned.touched.items shown touched)));
     }

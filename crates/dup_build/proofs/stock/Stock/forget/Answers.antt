@@ -1,4 +1,5 @@
 use Rattle.std.proofs.Common.{◌≡◌, [], cond, None, refl, sym, ap, subst, ◌∙◌}
+use Rattle.std.proofs.lemmas.Bool.{true≢false}
 use Rattle.dup_model.specs.Pages.{live}
 use Rattle.dup_names.specs.Objects.{is_in}
 use Rattle.dup_model.specs.Touched.{without}
@@ -12,14 +13,14 @@ use Rattle.dup_build.proofs.Stocking.{children_earlier, has_children}
 use Rattle.dup_build.proofs.stock.Stock.forget.Goals as goal
 
 pub unheld-requires-clause-earlier : goal.unheld-requires-clause-earlier
-unheld-requires-clause-earlier c = children_earlier c.self.inside.content c.self.inside.nodes c.self.invariant.nodes_are c.site_known.ensures.earlier
+unheld-requires-clause-earlier c = children_earlier c.self.inside.content c.self.inside.nodes c.self.invariant.stock.nodes_are c.site_known.ensures.earlier
 
 pub unheld-requires-clause-children : goal.unheld-requires-clause-children
-unheld-requires-clause-children c = has_children c.self.inside.content c.self.inside.nodes c.self.invariant.nodes_are c.args.graph.now
+unheld-requires-clause-children c = has_children c.self.inside.content c.self.inside.nodes c.self.invariant.stock.nodes_are c.args.graph.now
     (subst (λ (s : Stocked). HasReads s.content s.done c.args.graph.now) (sym c.self.view_is) c.requires.reads)
 
 pub unheld-requires-clause-held : goal.unheld-requires-clause-held
-unheld-requires-clause-held c = subst (λ ps. HoldsBut (shown_by ps) c.self.inside.nodes [] c.self.inside.progress.loose) (sym c.deref.ensures) c.self.invariant.held
+unheld-requires-clause-held c = subst (λ ps. HoldsBut (shown_by ps) c.self.inside.nodes [] c.self.inside.progress.loose) (sym c.deref.ensures) c.self.invariant.stock.held
 
 pub invariant_of-self : goal.invariant_of-self
 invariant_of-self c =
@@ -30,15 +31,19 @@ invariant_of-self c =
     let same : c.deref-2.result.now ≡ c.in_ok-gone.gone = c.deref-2.ensures.value ∙ c.in_ok-gone-2.ensures in
     let same_too : c.deref-3.result.now ≡ c.in_ok-gone.gone = c.deref-3.ensures.value ∙ c.in_ok-gone-2.ensures in
     let fewer : objs c.remove_all.new.self ≡ without (is_in c.in_ok-gone.gone) (objs c.self.inside.nodes) = c.remove_all.ensures.objs ∙ ap (λ l. without (is_in l) (objs c.self.inside.nodes)) same in
-    forgotten c.self.inside.content c.site_known.ensures.earlier c.self.inside.nodes c.self.inside.looks c.self.inside.progress c.self.invariant calm joined c.in_ok-gone.gone are_gone holds
-    c.remove_all.new.self c.remove_all-2.new.self
-    (record { pages = c.self.inside.progress.pages; waiting = c.self.inside.progress.waiting; unjoined = c.self.inside.progress.unjoined; loose = c.new.result })
-    (λ q. c.remove_all.ensures.at q ∙ ap (λ l. cond (is_in l q) None (at c.self.inside.nodes q)) same) fewer
-    (fewer ∙ done_left c.self.inside.content c.site_known.ensures.earlier c.self.inside.nodes c.self.inside.looks c.self.inside.progress c.self.invariant calm joined c.in_ok-gone.gone are_gone holds c.len.ensures.rising)
-    (λ q. c.remove_all-2.ensures.at q ∙ ap (λ l. cond (is_in l q) None (at c.self.inside.looks q)) same_too)
-    (c.remove_all-2.ensures.objs ∙ ap (λ l. without (is_in l) (objs c.self.inside.looks)) same_too
-    ∙ looked_left c.self.inside.content c.site_known.ensures.earlier c.self.inside.nodes c.self.inside.looks c.self.inside.progress c.self.invariant calm joined c.in_ok-gone.gone are_gone holds c.len-2.ensures.rising)
-    refl refl refl c.new.ensures
+    let unjoined : c.self.inside.progress.unjoined ≡ [] = c.self.invariant.stock.unjoined ∙ joined in
+    record {
+      stock = forgotten c.self.inside.content c.site_known.ensures.earlier c.self.inside.nodes c.self.inside.looks c.self.inside.progress c.self.invariant.stock calm joined c.in_ok-gone.gone are_gone holds
+          c.remove_all.new.self c.remove_all-2.new.self
+          (record { pages = c.self.inside.progress.pages; waiting = c.self.inside.progress.waiting; unjoined = c.self.inside.progress.unjoined; loose = c.new.result })
+          (λ q. c.remove_all.ensures.at q ∙ ap (λ l. cond (is_in l q) None (at c.self.inside.nodes q)) same) fewer
+          (fewer ∙ done_left c.self.inside.content c.site_known.ensures.earlier c.self.inside.nodes c.self.inside.looks c.self.inside.progress c.self.invariant.stock calm joined c.in_ok-gone.gone are_gone holds c.len.ensures.rising)
+          (λ q. c.remove_all-2.ensures.at q ∙ ap (λ l. cond (is_in l q) None (at c.self.inside.looks q)) same_too)
+          (c.remove_all-2.ensures.objs ∙ ap (λ l. without (is_in l) (objs c.self.inside.looks)) same_too
+          ∙ looked_left c.self.inside.content c.site_known.ensures.earlier c.self.inside.nodes c.self.inside.looks c.self.inside.progress c.self.invariant.stock calm joined c.in_ok-gone.gone are_gone holds c.len-2.ensures.rising)
+          refl refl refl c.new.ensures;
+      counts = λ x inside done. absurd (true≢false (sym inside ∙ ap (λ l. is_in l x) unjoined));
+    }
 
 pub returns-clause-ok : goal.returns-clause-ok
 returns-clause-ok c =
@@ -49,9 +54,9 @@ returns-clause-ok c =
     let same : c.deref-2.result.now ≡ c.in_ok-gone.gone = c.deref-2.ensures.value ∙ c.in_ok-gone-2.ensures in
     let same_too : c.deref-3.result.now ≡ c.in_ok-gone.gone = c.deref-3.ensures.value ∙ c.in_ok-gone-2.ensures in
     let done : objs c.remove_all.new.self ≡ live c.self.inside.content = c.remove_all.ensures.objs ∙ ap (λ l. without (is_in l) (objs c.self.inside.nodes)) same
-    ∙ done_left c.self.inside.content c.site_known.ensures.earlier c.self.inside.nodes c.self.inside.looks c.self.inside.progress c.self.invariant calm joined c.in_ok-gone.gone are_gone holds c.len.ensures.rising in
+    ∙ done_left c.self.inside.content c.site_known.ensures.earlier c.self.inside.nodes c.self.inside.looks c.self.inside.progress c.self.invariant.stock calm joined c.in_ok-gone.gone are_gone holds c.len.ensures.rising in
     let looked : objs c.remove_all-2.new.self ≡ live c.self.inside.content = c.remove_all-2.ensures.objs ∙ ap (λ l. without (is_in l) (objs c.self.inside.looks)) same_too
-    ∙ looked_left c.self.inside.content c.site_known.ensures.earlier c.self.inside.nodes c.self.inside.looks c.self.inside.progress c.self.invariant calm joined c.in_ok-gone.gone are_gone holds c.len-2.ensures.rising in
+    ∙ looked_left c.self.inside.content c.site_known.ensures.earlier c.self.inside.nodes c.self.inside.looks c.self.inside.progress c.self.invariant.stock calm joined c.in_ok-gone.gone are_gone holds c.len-2.ensures.rising in
     let content = ap (λ (s : Stocked). s.content) c.self.view_is in
     λ i. record { content = content i; done = (done ∙ ap live content) i; looked = (looked ∙ ap live content) i }
 
@@ -62,5 +67,5 @@ returns-clause-gone c = λ o h.
     let are_gone : AreGone (shown_by c.self.inside.progress.pages.value) c.self.inside.nodes c.in_ok-gone.gone = subst (λ ps. AreGone (shown_by ps) c.self.inside.nodes c.in_ok-gone.gone) c.deref.ensures c.in_ok-gone.ensures.gone in
     let holds : HoldsBut (shown_by c.self.inside.progress.pages.value) c.self.inside.nodes c.in_ok-gone.gone [] = subst (λ ps. HoldsBut (shown_by ps) c.self.inside.nodes c.in_ok-gone.gone []) c.deref.ensures c.in_ok-gone.ensures.held in
     ap (λ (s : Stocked). is_in (found s.content s.done) o) (sym c.self.view_is)
-    ∙ gone_unfound c.self.inside.content c.site_known.ensures.earlier c.self.inside.nodes c.self.inside.looks c.self.inside.progress c.self.invariant calm joined c.in_ok-gone.gone are_gone holds o
+    ∙ gone_unfound c.self.inside.content c.site_known.ensures.earlier c.self.inside.nodes c.self.inside.looks c.self.inside.progress c.self.invariant.stock calm joined c.in_ok-gone.gone are_gone holds o
     (ap (λ l. is_in l o) (sym c.in_ok-gone-2.ensures) ∙ h)

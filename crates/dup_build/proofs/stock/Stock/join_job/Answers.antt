@@ -21,7 +21,7 @@ unwrap-node-requires c =
 pub looks_of-requires : goal.looks_of-requires
 looks_of-requires c = λ g h.
     let node : IsNode c.self.inside.content c.args.obj.now c.unwrap-node.result.now =
-    c.self.invariant.nodes_are c.args.obj.now c.unwrap-node.result.now (sym c.get.ensures ∙ ap option_copied c.unwrap-node.ensures) in
+    c.self.invariant.stock.nodes_are c.args.obj.now c.unwrap-node.result.now (sym c.get.ensures ∙ ap option_copied c.unwrap-node.ensures) in
     let all : c.items.result.now ≡ embeds c.args.self.now.content c.args.obj.now =
     c.items.ensures ∙ node.children ∙ ap (λ (s : Stocked). embeds s.content c.args.obj.now) c.self.view_is in
     all_at (is_in c.args.self.now.looked) (embeds c.args.self.now.content c.args.obj.now) c.requires.looked g (ap (λ l. is_in l g) (sym all) ∙ h)
@@ -29,7 +29,7 @@ looks_of-requires c = λ g h.
 pub returns : goal.returns
 returns c =
     let node : IsNode c.self.inside.content c.args.obj.now c.unwrap-node.result.now =
-    c.self.invariant.nodes_are c.args.obj.now c.unwrap-node.result.now (sym c.get.ensures ∙ ap option_copied c.unwrap-node.ensures) in
+    c.self.invariant.stock.nodes_are c.args.obj.now c.unwrap-node.result.now (sym c.get.ensures ∙ ap option_copied c.unwrap-node.ensures) in
     let all : c.items.result.now ≡ embeds c.self.inside.content c.args.obj.now = c.items.ensures ∙ node.children in
     let parts : map (λ p. p.value) c.of.result ≡ map (look c.self.inside.content) (embeds c.self.inside.content c.args.obj.now) =
     ap (map (λ p. p.value)) c.of.ensures ∙ c.in_ok-parts.ensures ∙ (λ i. map (look (sym c.self.view_is i).content) (all i)) in

@@ -7,5 +7,5 @@ use Rattle.dup_build.proofs.stock.Stock.level.Goals as goal
 
 pub returns : goal.returns
 returns c =
-    let all : c.deref.result.now ≡ unjoined_in c.args.self.now = c.deref.ensures.value ∙ c.in_ok-unjoined.ensures ∙ c.self.invariant.unjoined ∙ ap unjoined_in c.self.view_is in
+    let all : c.deref.result.now ≡ unjoined_in c.args.self.now = c.deref.ensures.value ∙ c.in_ok-unjoined.ensures ∙ c.self.invariant.stock.unjoined ∙ ap unjoined_in c.self.view_is in
     c.in_ok-level.ensures ∙ ap (filter (is_in (level_in c.args.self.now))) all ∙ level_among c.args.self.now

@@ -15,5 +15,5 @@ unwrap-shown-requires c =
 pub returns : goal.returns
 returns c =
     c.in_ok-try_clone.ensures
-    ∙ c.self.invariant.looks_are c.args.obj.now c.unwrap-shown.result.now (sym c.get.ensures ∙ ap option_copied c.unwrap-shown.ensures)
+    ∙ c.self.invariant.stock.looks_are c.args.obj.now c.unwrap-shown.result.now (sym c.get.ensures ∙ ap option_copied c.unwrap-shown.ensures)
     ∙ ap (λ (s : Stocked). look s.content c.args.obj.now) c.self.view_is

@@ -7,4 +7,4 @@ use Rattle.dup_build.proofs.stock.Stock.next.Goals as goal
 pub returns-clause-waits : goal.returns-clause-waits
 returns-clause-waits c =
     next_waits c.args.last.now (waiting_in c.args.self.now) c.next.result
-    (c.next.ensures ∙ ap (next_of c.args.last.now) (c.self.invariant.waits ∙ ap waiting_in c.self.view_is))
+    (c.next.ensures ∙ ap (next_of c.args.last.now) (c.self.invariant.stock.waits ∙ ap waiting_in c.self.view_is))
