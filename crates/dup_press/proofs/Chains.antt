@@ -176,7 +176,7 @@ module _ (site : Parts) (limits : Limits) where
   joined_all p q w at u =
       until Join (join_on site) (Joins Done) joins joining (λ w. refl) (λ w. refl) joins_more (λ n w. fold-append (step site limits) w (joins n) (Join ∷ [])) p q w at u
 
-  published_all : (p q : Press) (w : World) → IsAt p w → (u : UntilTold (publish_on site) NothingChanged p q) →
+  pub published_all : (p q : Press) (w : World) → IsAt p w → (u : UntilTold (publish_on site) NothingChanged p q) →
       IsAt q (Steps w (publishing u.count)) × AllPublished site limits w u.count
   published_all p q w at u =
       until Publish (publish_on site) NothingChanged publishes publishing (λ w. refl) (λ w. refl) publishes_more (λ n w. fold-append (step site limits) w (publishes n) (Publish ∷ [])) p q w at u
@@ -200,10 +200,19 @@ module _ (site : Parts) (limits : Limits) where
     pub settles : Settles site limits w events counts
     pub press : press_of (Steps w events) ≡ q
 
-  pub led_by_work : (p begun handed joined finished q : Press) (b : machine.Begun) (counts : Counts) → begin_on p ≡ (Begins b, begun) →
-      AllHanded site begun handed → UntilTold (join_on site) (Joins Done) handed joined → finish_on joined ≡ (Finished (Report counts), finished) →
-      UntilTold (publish_on site) NothingChanged finished q → (w : World) → IsAt p w → Led w counts q
-  led_by_work p begun handed joined finished q b counts begins hands_are joins_are finishes publishes_are w at =
+  -- a work of so many hands, and what is published behind it
+  pub record HasWorkedOff (w : World) (k : ℕ) (counts : Counts) (q : Press) : Type 0 where
+    pub levels : ℕ
+    pub bundles : ℕ
+    pub worked : IsWorked site limits (step site limits w Begin) k levels
+    pub report : LastTold (Steps w (settling k levels)) (Finished (Report counts))
+    pub published : AllPublished site limits (Steps w (settling k levels)) bundles
+    pub press : press_of (Steps (Steps w (settling k levels)) (publishing bundles)) ≡ q
+
+  pub worked_off : (p begun handed joined finished q : Press) (b : machine.Begun) (counts : Counts) → begin_on p ≡ (Begins b, begun) →
+      (hands_are : AllHanded site begun handed) → UntilTold (join_on site) (Joins Done) handed joined → finish_on joined ≡ (Finished (Report counts), finished) →
+      UntilTold (publish_on site) NothingChanged finished q → (w : World) → IsAt p w → HasWorkedOff w hands_are.count counts q
+  worked_off p begun handed joined finished q b counts begins hands_are joins_are finishes publishes_are w at =
       let one : IsAt begun (step site limits w Begin) × LastTold (step site limits w Begin) (Begins b) = one_step Begin begin_on (λ w. refl) p begun (Begins b) w at begins in
       let k : ℕ = hands_are.count in
       let m : ℕ = joins_are.count in
@@ -221,11 +230,20 @@ module _ (site : Parts) (limits : Limits) where
       let five : IsAt q (Steps (Steps w (settling k m)) (publishing n)) × AllPublished site limits (Steps w (settling k m)) n =
       published_all finished q (Steps w (settling k m)) (subst (IsAt finished) (sym ran) four.0) publishes_are in
       record {
-        events = settling k m ++ publishing n;
-        settles = by_work k m n counts (record { handed = two.1; joined = three.1 })
-            (subst (λ (v : World). LastTold v (Finished (Report counts))) (sym ran) four.1) five.1;
-        press = ap press_of (fold-append (step site limits) w (settling k m) (publishing n)) ∙ five.0.press;
+        levels = m;
+        bundles = n;
+        worked = record { handed = two.1; joined = three.1 };
+        report = subst (λ (v : World). LastTold v (Finished (Report counts))) (sym ran) four.1;
+        published = five.1;
+        press = five.0.press;
       }
+
+  pub led_by_work : (k : ℕ) (w : World) (counts : Counts) (q : Press) → HasWorkedOff w k counts q → Led w counts q
+  led_by_work k w counts q o = record {
+    events = settling k o.levels ++ publishing o.bundles;
+    settles = by_work k o.levels o.bundles counts o.worked o.report o.published;
+    press = ap press_of (fold-append (step site limits) w (settling k o.levels) (publishing o.bundles)) ∙ o.press;
+  }
 
   pub led_at_once : (p begun q : Press) (v : ℕ) → begin_on p ≡ (Begins (Nothing v), begun) → UntilTold (publish_on site) NothingChanged begun q →
       (w : World) → IsAt p w → Led w (record { version = v; expanded = 0; joined = 0; kept = length (live (content site w.commits)) }) q

@@ -8,3 +8,5 @@ pub mod Settling
 pub mod Standing
 pub mod Looping
 pub mod Settled
+pub mod Outcomes
+pub mod Summaries

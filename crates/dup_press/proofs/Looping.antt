@@ -31,7 +31,7 @@ use Rattle.dup_bundle.proofs.Ordered.{fewer_left, left_published}
 use Rattle.dup_edition.specs.Logged.{Logged}
 use Rattle.dup_press.specs.Press.{aim, aim_at, logged}
 use Rattle.dup_press.specs.Pressed.{Hands, IsSamePlace, Pressed, Tells, pressed}
-use Rattle.dup_press.specs.Turns.{AllHanded, IsCalm, IsJoined, IsTurn, IsWorking, Repeats, Turns, UntilTold, join_on, publish_on}
+use Rattle.dup_press.specs.Turns.{HasExpanded, AllHanded, IsCalm, IsJoined, IsTurn, IsWorking, Repeats, Turns, UntilTold, join_on, publish_on, ticked}
 use Rattle.dup_press.proofs.Settling.{content_of, handed_is, join_ends, join_leads, none_leads, none_left, none_waits, to_expand, to_join, turned_less, working_turned}
 
 pub same_twice : (a b c : Pressed) → IsSamePlace a b → IsSamePlace b c → IsSamePlace a c
@@ -40,14 +40,15 @@ same_twice a b c one two = record { site = two.site ∙ one.site; limits = two.l
 pub same_itself : (a : Pressed) → IsSamePlace a a
 same_itself a = record { site = refl; limits = refl; place = refl }
 
--- turns so far
-pub record IsExpanding (first now : Pressed) : Type 0 where
+-- turns so far, each of which the meter counts
+pub record IsExpanding (first : Pressed) (before : ℕ) (now : Pressed) (after : ℕ) : Type 0 where
   pub place : IsSamePlace first now
   pub count : ℕ
   pub turns : Turns first.works.journal.site count (pressed first) (pressed now)
   pub working : IsWorking first.works.journal.site (pressed now)
+  pub counted : after ≡ ticked before count
 
-module _ (first now : Pressed) (is : IsExpanding first now) where
+module _ (first : Pressed) (before : ℕ) (now : Pressed) (after : ℕ) (is : IsExpanding first before now after) where
   abbrev site : Parts
   site = first.works.journal.site
 
@@ -76,12 +77,13 @@ module _ (first now : Pressed) (is : IsExpanding first now) where
           (subst (λ (c : Content). (put_step held.works.journal.site obj (notes c obj) held.works.work held.works.target (pressed held)).1 ≡ pressed next) content_is puts);
     }
 
-    pub expanding_more : IsExpanding first next
-    expanding_more = record {
+    pub expanding_more : (last : ℕ) → last ≡ ticked after 1 → IsExpanding first before next last
+    expanding_more last once = record {
       place = same_twice first now next is.place (same_twice now held next same then);
       count = suc is.count;
       turns = (pressed now, (is.turns, turn));
       working = working_turned site (pressed now) (pressed next) is.working turn;
+      counted = once ∙ ap (λ (n : ℕ). ticked n 1) is.counted;
     }
 
     pub expanding_less : to_expand (content_of site (pressed next)) next.works.work < to_expand (content_of site (pressed now)) now.works.work
@@ -95,11 +97,14 @@ module _ (first now : Pressed) (is : IsExpanding first now) where
     at_rest : pressed next ≡ pressed now
     at_rest = none_leads site (pressed now) is.working.work is.working.busy (pressed next) none_here
 
-    pub expanding_ends : AllHanded site (pressed first) (pressed next)
+    pub expanding_ends : HasExpanded site (pressed first) before (pressed next) after
     expanding_ends = record {
-      count = is.count;
-      turns = subst (λ (p : Press). Turns site is.count (pressed first) p) (sym at_rest) is.turns;
-      none = ap (λ (p : Press). hand_step site p.work p.target p) at_rest ∙ none_here;
+      handed = record {
+        count = is.count;
+        turns = subst (λ (p : Press). Turns site is.count (pressed first) p) (sym at_rest) is.turns;
+        none = ap (λ (p : Press). hand_step site p.work p.target p) at_rest ∙ none_here;
+      };
+      counted = is.counted;
     }
 
     pub expanding_calm : IsCalm site (pressed next)

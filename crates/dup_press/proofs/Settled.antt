@@ -20,20 +20,20 @@ use Rattle.dup_press.specs.Pressed.{IsSamePlace, Pressed, Tells, pressed}
 use Rattle.dup_press.specs.Told.{HasSettled, IsSettled, summary_of}
 use Rattle.dup_press.specs.Turns.{AllHanded, HasPublished, HasWorked, UntilTold, counts_left, join_on, publish_on}
 use Rattle.dup_press.specs.declared.answers.Summary.{Summary}
-use Rattle.dup_press.proofs.Chains.{IsAt, Led, led_at_once, led_by_work}
+use Rattle.dup_press.proofs.Chains.{HasWorkedOff, IsAt, Led, led_at_once, led_by_work, worked_off}
 use Rattle.dup_press.proofs.Settling.{nothing_begun}
 
 module _ (old mid new : Pressed) (summary : Summary) (same : IsSamePlace old mid) where
   abbrev site : Parts
   site = old.works.journal.site
 
-  module _ (t : machine.Begun) (begins : Tells (begin_step site old.works.work old.works.target) old (Begins t) mid) (h : HasWorked mid summary new) where
+  module _ (t : machine.Begun) (begins : Tells (begin_step site old.works.work old.works.target) old (Begins t) mid) (before after : ℕ) (h : HasWorked mid before summary new after) where
     log_is : mid.log ≡ old.log
     log_is = ap (λ (r : Told × Press). r.1.log) (sym begins)
 
-    led : (limits : Limits) (w : World) → press_of w ≡ pressed old → fin.get w.slots 0 ≡ None → Led site limits w h.counts (pressed new)
-    led limits w press slot =
-        led_by_work site limits (pressed old) (pressed mid) h.handed h.joined h.finished (pressed new) t h.counts begins
+    pub worked : (limits : Limits) (w : World) → press_of w ≡ pressed old → fin.get w.slots 0 ≡ None → HasWorkedOff site limits w h.hands.count h.counts (pressed new)
+    worked limits w press slot =
+        worked_off site limits (pressed old) (pressed mid) h.handed h.joined h.finished (pressed new) t h.counts begins
         (subst (λ (s : Parts). AllHanded s (pressed mid) h.handed) same.site h.hands)
         (subst (λ (s : Parts). UntilTold (join_on s) (Joins Done) h.handed h.joined) same.site h.joins)
         (subst (λ (s : Parts). finish_step s h.joined.work h.joined.target h.joined ≡ (Finished (Report h.counts), h.finished)) same.site h.finishes)
@@ -42,7 +42,7 @@ module _ (old mid new : Pressed) (summary : Summary) (same : IsSamePlace old mid
 
     pub settled_by_work : IsSettled old summary new
     settled_by_work limits w press slot =
-        let l : Led site limits w h.counts (pressed new) = led limits w press slot in
+        let l : Led site limits w h.counts (pressed new) = led_by_work site limits h.hands.count w h.counts (pressed new) (worked limits w press slot) in
         record {
           events = l.events;
           counts = h.counts;

@@ -5,4 +5,5 @@ pub mod Workshop
 pub mod Pressed
 pub mod Press
 pub mod Told
+pub mod Settled
 pub mod Turns

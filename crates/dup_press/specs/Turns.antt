@@ -1,6 +1,6 @@
 -- How a press settles: turns of a hand and a put until none waits, and a step again and again until it tells
 -- that nothing is left.
-use Rattle.std.specs.Prelude.{◌≡◌, ◌≢◌, ℕ, zero, suc, List, [], Option, Some, None, length}
+use Rattle.std.specs.Prelude.{◌≡◌, ◌≢◌, ◌+◌, ◌-◌, ◌^◌, min, ℕ, zero, suc, List, [], Option, Some, None, length}
 use Rattle.dup_names.specs.declared.object.Obj.{Obj}
 use Rattle.dup_template.specs.declared.site.Parts.{Parts}
 use Rattle.dup_model.specs.Embeddings.{EmbedsEarlier}
@@ -37,6 +37,16 @@ pub record AllHanded (site : Parts) (p q : Press) : Type 0 where
   pub count : ℕ
   pub turns : Turns site count p q
   pub none : hand_step site q.work q.target q ≡ (None, q)
+
+-- a meter after so many ticks
+abbrev pub ticked : ℕ → ℕ → ℕ
+ticked count zero = count
+ticked count (suc k) = min (ticked count k + 1) (2 ^ 64 - 1)
+
+-- the same, and the meter counts each turn
+pub record HasExpanded (site : Parts) (p : Press) (before : ℕ) (q : Press) (after : ℕ) : Type 0 where
+  pub handed : AllHanded site p q
+  pub counted : after ≡ ticked before handed.count
 
 -- so many times a step that tells something else than this leads from one press to another
 abbrev pub Repeats : (Press → Told × Press) → Told → ℕ → Press → Press → Type 0
@@ -77,8 +87,8 @@ pub record IsJoined (site : Parts) (p : Press) : Type 0 where
   pub calm : waiting (version site p.commits work.version) work.done ≡ []
   pub joined : unjoined (version site p.commits work.version) work ≡ []
 
--- the open work is done and closed, and all is published
-pub record HasWorked (old : Pressed) (summary : Summary) (new : Pressed) : Type 0 where
+-- the open work is done and closed, and all is published; the meter counts each turn
+pub record HasWorked (old : Pressed) (before : ℕ) (summary : Summary) (new : Pressed) (after : ℕ) : Type 0 where
   pub handed : Press
   pub joined : Press
   pub finished : Press
@@ -88,6 +98,7 @@ pub record HasWorked (old : Pressed) (summary : Summary) (new : Pressed) : Type 
   pub finishes : finish_step old.works.journal.site joined.work joined.target joined ≡ (Finished (Report counts), finished)
   pub publishes : UntilTold (publish_on old.works.journal.site) NothingChanged finished (pressed new)
   pub says : summary ≡ summary_of old counts new
+  pub counted : after ≡ ticked before hands.count
 
 -- where the target is of the last version, nothing is expanded or joined
 abbrev pub counts_left : Pressed → Counts

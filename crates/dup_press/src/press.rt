@@ -159,8 +159,7 @@ impl<O: Outlet + Drop> Press<O> {
     }
 
     /// The next object to expand, with the content to expand it over, where one waits: the least behind the
-    /// one last handed, or else the least of all. `None` takes no memory. The cost is a search in what
-    /// waits.
+    /// one last handed, or else the least of all. The cost is a search in what waits.
     pub fn hand(&mut self, alloc: Global) -> Result<Option<Job>, NoMemory>
         ensures step { IfOk result (λ job. Hands
             (hand_step self.old.works.journal.site self.old.works.work self.old.works.target) self.old

@@ -7,9 +7,10 @@ ghost use Rattle.dup_model.specs.Embeddings.{EmbedsEarlier};
 ghost use Rattle.dup_model.specs.Expansions.{notes};
 ghost use Rattle.dup_template.specs.Frame.{frame_of};
 ghost use Rattle.dup_press.specs.Pressed.{IsSamePlace, pressed};
-ghost use Rattle.dup_press.specs.Told.{IsSettled};
+ghost use Rattle.dup_press.specs.Settled.{PublishesLast, counts_to_last, left_to_expand};
+ghost use Rattle.dup_press.specs.Told.{IsSettled, summary_of};
 ghost use Rattle.dup_press.specs.Turns.{
-  AllHanded,
+  HasExpanded,
   HasPublished,
   HasWorked,
   IsCalm,
@@ -18,6 +19,7 @@ ghost use Rattle.dup_press.specs.Turns.{
   UntilTold,
   join_on,
   publish_on,
+  ticked,
 };
 
 use crate::answers::{Published, Summary};
@@ -48,6 +50,7 @@ where
         ensures put { OnOk result ((put_step self.old.works.journal.site job.now.obj
             (notes job.now.content job.now.obj) self.old.works.work self.old.works.target
             (pressed self.old)).1 ≡ pressed self.new) }
+        ensures counted { OnOk result (meter.new ≡ ticked meter.old 1) }
         ensures place { IsSamePlace self.old self.new }
     {
         let expanded = expand(alloc, &job.content, &job.obj, meter)?;
@@ -58,8 +61,8 @@ where
     // Hands out, expands and takes back until none waits.
     fn expand_all(&mut self, alloc: Global, meter: &mut Meter) -> Result<(), NoMemory>
         requires { IsWorking self.old.works.journal.site (pressed self.old) }
-        ensures handed { OnOk result
-            (AllHanded self.old.works.journal.site (pressed self.old) (pressed self.new)) }
+        ensures handed { OnOk result (HasExpanded self.old.works.journal.site (pressed self.old)
+            meter.old (pressed self.new) meter.new) }
         ensures calm { OnOk result (IsCalm self.old.works.journal.site (pressed self.new)) }
         ensures place { IsSamePlace self.old self.new }
     {
@@ -101,7 +104,7 @@ where
         meter: &mut Meter,
     ) -> Result<Summary, NoMemory>
         requires { IsWorking self.old.works.journal.site (pressed self.old) }
-        ensures worked { IfOk result (λ summary. HasWorked self.old summary self.new) }
+        ensures worked { IfOk result (λ summary. HasWorked self.old meter.old summary self.new meter.new) }
         ensures place { IsSamePlace self.old self.new }
     {
         self.expand_all(alloc, meter)?;
@@ -160,6 +163,12 @@ where
         meter: &mut Meter,
     ) -> Result<Summary, NoMemory>
         ensures settled { IfOk result (λ summary. IsSettled self.old summary self.new) }
+        ensures published { OnOk result (PublishesLast self.old self.new) }
+
+        // Each expansion is one of an object that is left to expand.
+        ensures meter { OnOk result (meter.new ≡ ticked meter.old (left_to_expand self.old)) }
+        ensures counts { IfOk result (λ summary. self.old.works.work ≡ None →
+            summary ≡ summary_of self.old (counts_to_last self.old) self.new) }
         ensures place { IsSamePlace self.old self.new }
     {
         content_known(self.content());

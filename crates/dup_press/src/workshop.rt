@@ -138,8 +138,8 @@ impl Workshop {
         Ok(begun)
     }
 
-    /// The next object to expand, with the content to expand it over, where one waits. `None` takes no
-    /// memory. The cost is a search in what waits.
+    /// The next object to expand, with the content to expand it over, where one waits. The cost is a search
+    /// in what waits.
     pub fn hand(&mut self, alloc: Global) -> Result<Option<Job>, NoMemory>
         ensures step { IfOk result (λ job. IsHand
             (hand_step self.old.journal.site self.old.work self.old.target) self.old

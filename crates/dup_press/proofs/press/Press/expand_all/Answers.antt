@@ -5,7 +5,7 @@ use Rattle.dup_build.specs.declared.job.Job.{Job}
 use Rattle.dup_machine.specs.Presses.{begun_version, hand_step}
 use Rattle.dup_model.specs.Versions.{version}
 use Rattle.dup_press.specs.Pressed.{Hands}
-use Rattle.dup_press.proofs.Looping.{expanding_calm, expanding_less, expanding_more, no_some, over_frame}
+use Rattle.dup_press.proofs.Looping.{expanding_calm, expanding_ends, expanding_less, expanding_more, no_some, over_frame}
 use Rattle.dup_press.proofs.press.Press.expand_all.Goals as goal
 
 pub bring-requires : goal.bring-requires
@@ -19,16 +19,16 @@ bring-requires g c =
 pub loop-job-preserved : goal.loop-job-preserved
 loop-job-preserved g c =
     let now = c.loop-job.self in
-    expanding_more c.args.self.now now c.loop-job.invariant c.hand.new.self c.bring.new.self c.in-Some.job.obj c.in-Some.job.content
+    expanding_more c.args.self.now c.args.meter.now now c.loop-job.meter c.loop-job.invariant c.hand.new.self c.bring.new.self c.in-Some.job.obj c.in-Some.job.content
     (subst (λ (o : Option Job). Hands (hand_step now.works.journal.site now.works.work now.works.target) now (option_map (λ j. j.obj) o) c.hand.new.self) c.in-Some.is c.in_ok-job.ensures.step)
     c.in_ok-job.ensures.place
     (subst (λ (o : Option Job). IfSome o (λ j. j.content ≡ version now.works.journal.site now.works.journal.commits (begun_version now.works.work now.works.target))) c.in-Some.is c.in_ok-job.ensures.content)
-    c.in_ok-bring.ensures.put c.in_ok-bring.ensures.place
+    c.in_ok-bring.ensures.put c.in_ok-bring.ensures.place c.bring.new.meter c.in_ok-bring.ensures.counted
 
 pub loop-job-smaller : goal.loop-job-smaller
 loop-job-smaller g c =
     let now = c.loop-job.self in
-    expanding_less c.args.self.now now c.loop-job.invariant c.hand.new.self c.bring.new.self c.in-Some.job.obj c.in-Some.job.content
+    expanding_less c.args.self.now c.args.meter.now now c.loop-job.meter c.loop-job.invariant c.hand.new.self c.bring.new.self c.in-Some.job.obj c.in-Some.job.content
     (subst (λ (o : Option Job). Hands (hand_step now.works.journal.site now.works.work now.works.target) now (option_map (λ j. j.obj) o) c.hand.new.self) c.in-Some.is c.in_ok-job.ensures.step)
     c.in_ok-job.ensures.place
     (subst (λ (o : Option Job). IfSome o (λ j. j.content ≡ version now.works.journal.site now.works.journal.commits (begun_version now.works.work now.works.target))) c.in-Some.is c.in_ok-job.ensures.content)
@@ -37,6 +37,13 @@ loop-job-smaller g c =
 pub returns-clause-calm : goal.returns-clause-calm
 returns-clause-calm g c =
     let now = c.loop-job.self in
-    expanding_calm c.args.self.now now c.loop-job.invariant c.hand.new.self
+    expanding_calm c.args.self.now c.args.meter.now now c.loop-job.meter c.loop-job.invariant c.hand.new.self
+    (subst (λ (o : Option Job). Hands (hand_step now.works.journal.site now.works.work now.works.target) now (option_map (λ j. j.obj) o) c.hand.new.self) (no_some c.in_ok-job.field-0 c.in_default.not-Some) c.in_ok-job.ensures.step)
+    c.in_ok-job.ensures.place
+
+pub returns-clause-handed : goal.returns-clause-handed
+returns-clause-handed g c =
+    let now = c.loop-job.self in
+    expanding_ends c.args.self.now c.args.meter.now now c.loop-job.meter c.loop-job.invariant c.hand.new.self
     (subst (λ (o : Option Job). Hands (hand_step now.works.journal.site now.works.work now.works.target) now (option_map (λ j. j.obj) o) c.hand.new.self) (no_some c.in_ok-job.field-0 c.in_default.not-Some) c.in_ok-job.ensures.step)
     c.in_ok-job.ensures.place

@@ -11,6 +11,7 @@ use Rattle.dup_press.specs.declared.answers.Summary.{Summary}
 use Rattle.dup_press.proofs.Looping.{not_nothing_begun, same_twice}
 use Rattle.dup_press.proofs.Settled.{left_idle, left_made, settled_at_once, settled_by_work}
 use Rattle.dup_press.proofs.Settling.{begun_working}
+use Rattle.dup_press.proofs.Summaries.{Outcome, outcome_by_work, outcome_if_nothing}
 use Rattle.dup_press.proofs.press.Press.settle.Goals as goal
 
 any_summary : Summary
@@ -32,9 +33,32 @@ returns-in_ok-summary-in-Nothing-clause-settled g c =
     (subst (λ (b : Begun). Tells (begin_step c.args.self.now.works.journal.site c.args.self.now.works.work c.args.self.now.works.target) c.args.self.now (machine.Told.Begins (begun_told b)) c.begin.new.self) c.in-Nothing.is c.in_ok-begin.ensures.step)
     c.in_ok-summary-in-Nothing.ensures.published
 
+pub returns-in_ok-summary-in-Nothing-clause-published : goal.returns-in_ok-summary-in-Nothing-clause-published
+returns-in_ok-summary-in-Nothing-clause-published g c =
+    (outcome_if_nothing c.args.self.now c.begin.new.self c.publish_left.new.self c.in_ok-summary-in-Nothing.summary c.in_ok-begin.field-0 c.in-Nothing.field-0 c.args.meter.now
+    c.in_ok-begin.ensures.place c.in-Nothing.is c.in_ok-begin.ensures.step c.in_ok-summary-in-Nothing.ensures.published).published
+
+pub returns-in_ok-summary-in-Nothing-clause-meter : goal.returns-in_ok-summary-in-Nothing-clause-meter
+returns-in_ok-summary-in-Nothing-clause-meter g c =
+    (outcome_if_nothing c.args.self.now c.begin.new.self c.publish_left.new.self c.in_ok-summary-in-Nothing.summary c.in_ok-begin.field-0 c.in-Nothing.field-0 c.args.meter.now
+    c.in_ok-begin.ensures.place c.in-Nothing.is c.in_ok-begin.ensures.step c.in_ok-summary-in-Nothing.ensures.published).meter
+
+pub returns-in_ok-summary-in-Nothing-clause-counts : goal.returns-in_ok-summary-in-Nothing-clause-counts
+returns-in_ok-summary-in-Nothing-clause-counts g c =
+    (outcome_if_nothing c.args.self.now c.begin.new.self c.publish_left.new.self c.in_ok-summary-in-Nothing.summary c.in_ok-begin.field-0 c.in-Nothing.field-0 c.args.meter.now
+    c.in_ok-begin.ensures.place c.in-Nothing.is c.in_ok-begin.ensures.step c.in_ok-summary-in-Nothing.ensures.published).counts
+
 pub returns-in_ok-summary-in_default : goal.returns-in_ok-summary-in_default
-returns-in_ok-summary-in_default g c = record {
-  settled = settled_by_work c.args.self.now c.begin.new.self c.work_off.new.self c.in_ok-summary-in_default.summary c.in_ok-begin.ensures.place (begun_told c.in_ok-begin.field-0)
-      c.in_ok-begin.ensures.step c.in_ok-summary-in_default.ensures.worked;
-  place = same_twice c.args.self.now c.begin.new.self c.work_off.new.self c.in_ok-begin.ensures.place c.in_ok-summary-in_default.ensures.place;
-}
+returns-in_ok-summary-in_default g c =
+    let outcome : Outcome c.args.self.now c.args.meter.now c.in_ok-summary-in_default.summary c.work_off.new.self c.work_off.new.meter =
+    outcome_by_work c.args.self.now c.begin.new.self c.work_off.new.self c.in_ok-summary-in_default.summary c.in_ok-begin.ensures.place (begun_told c.in_ok-begin.field-0)
+    c.in_ok-begin.ensures.step (not_nothing_begun c.in_ok-begin.field-0 c.in_default.not-Nothing)
+    (subst EmbedsEarlier c.content.ensures c.content_known.ensures) c.args.meter.now c.work_off.new.meter c.in_ok-summary-in_default.ensures.worked in
+    record {
+      settled = settled_by_work c.args.self.now c.begin.new.self c.work_off.new.self c.in_ok-summary-in_default.summary c.in_ok-begin.ensures.place (begun_told c.in_ok-begin.field-0)
+          c.in_ok-begin.ensures.step c.args.meter.now c.work_off.new.meter c.in_ok-summary-in_default.ensures.worked;
+      published = outcome.published;
+      meter = outcome.meter;
+      counts = outcome.counts;
+      place = same_twice c.args.self.now c.begin.new.self c.work_off.new.self c.in_ok-begin.ensures.place c.in_ok-summary-in_default.ensures.place;
+    }

@@ -39,13 +39,13 @@ returns-clause-worked g c =
     subst (λ (s : Parts). finish_step s c.join_all.new.self.works.work c.join_all.new.self.works.target (pressed c.join_all.new.self) ≡ (Finished (Report counts), pressed c.finish.new.self)) two.site
     (subst (λ (f : Finish). Tells (finish_step c.join_all.new.self.works.journal.site c.join_all.new.self.works.work c.join_all.new.self.works.target) c.join_all.new.self (Finished (finish_told f)) c.finish.new.self) c.in-Report.is c.in_ok-version.ensures.step) in
     let log_is : c.finish.new.self.log ≡ old.log =
-    worked_log old.works.journal.site (pressed old) (pressed c.expand_all.new.self) (pressed c.join_all.new.self) (pressed c.finish.new.self) (Finished (Report counts)) c.in_ok-expand_all.ensures.handed joins finishes in
+    worked_log old.works.journal.site (pressed old) (pressed c.expand_all.new.self) (pressed c.join_all.new.self) (pressed c.finish.new.self) (Finished (Report counts)) c.in_ok-expand_all.ensures.handed.handed joins finishes in
     record {
       handed = pressed c.expand_all.new.self;
       joined = pressed c.join_all.new.self;
       finished = pressed c.finish.new.self;
       counts = counts;
-      hands = c.in_ok-expand_all.ensures.handed;
+      hands = c.in_ok-expand_all.ensures.handed.handed;
       joins = joins;
       finishes = finishes;
       publishes = subst (λ (s : Parts). UntilTold (publish_on s) NothingChanged (pressed c.finish.new.self) (pressed c.publish_all.new.self)) three.site c.in_ok-bundles.ensures.published;
@@ -57,4 +57,5 @@ returns-clause-worked g c =
         joined = c.in-Report.joined;
         kept = c.in-Report.kept;
       };
+      counted = c.in_ok-expand_all.ensures.handed.counted;
     }
