@@ -1,32 +1,34 @@
 -- What each command does to a session is what the machine does from where it stands.
-use Rattle.std.proofs.Common.{◌≡◌, ◌≢◌, ℕ, ◌<◌, ◌≤◌, Bool, true, false, refl, sym, ap, ◌∙◌, subst, List, [], ◌∷◌, ◌++◌, length, arith}
-use Rattle.std.specs.Fmt.{decimal}
-use Rattle.std.specs.Prelude.{Option, Some, None, codes, nat_eq, nat_lt, if◌then◌else◌}
-use Rattle.std.specs.List.{list_any}
+use Rattle.std.proofs.Common.{◌≡◌, ◌≢◌, ℕ, refl, sym, ap, ◌∙◌, subst, List, []}
+use Rattle.std.specs.Prelude.{OnOk, Option, Some, None, Result, Ok, Err}
 use Rattle.std.specs.FinMap as fin
-use Rattle.std.proofs.lemmas.Bool.Decides.{nat_tests}
-use Rattle.dup_names.specs.Lines.{line}
-use Rattle.dup_names.specs.Words.{Word, Path}
+use Rattle.std.specs.Map.{lookup}
+use Rattle.std.specs.Ordering.{is_eq, nat_cmp}
+use Rattle.std.proofs.lemmas.Option.{none-some}
+use Rattle.dup_names.specs.Words.{Word}
 use Rattle.dup_template.specs.declared.site.Parts.{Parts}
-use Rattle.dup_model.specs.declared.mode.Mode.{Mode}
 use Rattle.dup_model.specs.Commits.{Commit, Refusal}
-use Rattle.dup_model.specs.Editions.{Page, edition}
+use Rattle.dup_model.specs.Editions.{Bundle}
 use Rattle.dup_model.specs.Journal.{Limits, commit_refusal, usual_limits}
 use Rattle.dup_machine.specs.Presses.{Press, commit_step}
-use Rattle.dup_machine.specs.World.{Told}
-use Rattle.dup_machine.specs.World.Told.{Ahead, Committed, NoNode, NodeMade, NodeTaken, Refused}
+use Rattle.dup_machine.specs.World.{Told, World}
+use Rattle.dup_machine.specs.World.Told.{Committed, Refused}
 use Rattle.dup_records.specs.Refusals.{Names}
 use Rattle.dup_records.specs.declared.refusal.CommitRefusal.{CommitRefusal}
 use Rattle.dup_records.specs.declared.refusal.CommitRefusal.TheVariants as cause
-use Rattle.dup_press.specs.Pressed.{Pressed, Tells, pressed}
+use Rattle.dup_cache.specs.Holding.{BeginsWith}
+use Rattle.dup_cache.proofs.Holding.{growing_holds}
+use Rattle.dup_press.specs.Pressed.{IsSamePlace, Pressed, Tells, pressed}
 use Rattle.dup_press.specs.Told.{IsSettled}
 use Rattle.dup_press.specs.declared.answers.Summary.{Summary}
+use Rattle.dup_transcript.specs.Commands.{Command}
 use Rattle.dup_transcript.specs.Texts.{refusal_text, settled_text, told_text}
-use Rattle.dup_transcript.specs.Turns.{Standing, Turns}
+use Rattle.dup_transcript.specs.Turns.{Turns, first_standing}
 use Rattle.dup_transcript.specs.declared.command.Command.TheVariants as command
-use Rattle.dup_transcript.proofs.MachineTurns.{newest_told, page_told, turns_commit, turns_get, turns_made, turns_no_node, turns_settle, turns_taken}
+use Rattle.dup_transcript.proofs.MachineTurns.{settles_grow, turns_commit, turns_settle}
+use Rattle.dup_main.specs.Serving.{AllHold, Nodes, TurnsNodes, cache_at, standing_at}
 use Rattle.dup_main.specs.declared.session.Session.{Session as Kept}
-use Rattle.dup_main.specs.Kept.{Acts, IsUsual, standing}
+use Rattle.dup_main.specs.Kept.{Acts, AreSound, IsSound, standing}
 
 abbrev site_of : Kept → Parts
 site_of s = s.press.works.journal.site
@@ -39,15 +41,15 @@ with_press s p = record s { press = p }
 abbrev pub refused_in : Kept → Commit → Option Refusal
 refused_in s commit = commit_refusal s.press.works.journal.site s.press.works.journal.limits s.press.works.journal.commits commit
 
-usual_cause : (s : Kept) (commit : Commit) → IsUsual s → refused_in s commit ≡ commit_refusal (site_of s) usual_limits s.press.works.journal.commits commit
-usual_cause s commit usual = ap (λ (l : Limits). commit_refusal (site_of s) l s.press.works.journal.commits commit) usual
+usual_cause : (s : Kept) (commit : Commit) → IsSound s → refused_in s commit ≡ commit_refusal (site_of s) usual_limits s.press.works.journal.commits commit
+usual_cause s commit sound = ap (λ (l : Limits). commit_refusal (site_of s) l s.press.works.journal.commits commit) sound.usual
 
-pub accepted_acts : (s : Kept) (new : Pressed) (commit : Commit) (version : ℕ) (text : Word) → IsUsual s
+pub accepted_acts : (s : Kept) (new : Pressed) (commit : Commit) (version : ℕ) (text : Word) → IsSound s
     → Tells (commit_step commit (refused_in s commit)) s.press (Committed version) new → text ≡ told_text (Committed version)
     → Acts s (with_press s new) 0 (command.Commit commit) text
-accepted_acts s new commit version text usual tells said =
+accepted_acts s new commit version text sound tells said =
     let is : commit_step commit (commit_refusal (site_of s) usual_limits s.press.works.journal.commits commit) (pressed s.press) ≡ (Committed version, pressed new) =
-    subst (λ (o : Option Refusal). commit_step commit o (pressed s.press) ≡ (Committed version, pressed new)) (usual_cause s commit usual) tells in
+    subst (λ (o : Option Refusal). commit_step commit o (pressed s.press) ≡ (Committed version, pressed new)) (usual_cause s commit sound) tells in
     subst (λ (t : Word). Acts s (with_press s new) 0 (command.Commit commit) t) (sym said)
     (turns_commit (site_of s) usual_limits (standing s) 0 commit (Committed version) (pressed new) is)
 
@@ -63,15 +65,15 @@ named (cause.BadBody n rule) names other = absurd (cc)
 named cause.NoMemory names other = absurd (other refl)
 
 -- a commit that is refused leaves the press
-pub refused_acts : (s : Kept) (new : Pressed) (commit : Commit) (why : CommitRefusal) (text : Word) → IsUsual s → new ≡ s.press → Names why (refused_in s commit) → why ≢ cause.NoMemory
+pub refused_acts : (s : Kept) (new : Pressed) (commit : Commit) (why : CommitRefusal) (text : Word) → IsSound s → new ≡ s.press → Names why (refused_in s commit) → why ≢ cause.NoMemory
     → ((due : Refusal) → Names why (Some due) → text ≡ refusal_text due) → Acts s (with_press s new) 0 (command.Commit commit) text
-refused_acts s new commit why text usual same names other says = by_cause (refused_in s commit) refl names
+refused_acts s new commit why text sound same names other says = by_cause (refused_in s commit) refl names
   where
     by_cause : (o : Option Refusal) → refused_in s commit ≡ o → Names why o → Acts s (with_press s new) 0 (command.Commit commit) text
     by_cause None is n = absurd (named why n other)
     by_cause (Some due) is n =
         let at : commit_step commit (commit_refusal (site_of s) usual_limits s.press.works.journal.commits commit) (pressed s.press) ≡ (Refused due, pressed new) =
-        ap (λ (o : Option Refusal). commit_step commit o (pressed s.press)) (sym (usual_cause s commit usual) ∙ is) ∙ ap (λ (p : Pressed). let r : Told × Press = (Refused due, pressed p) in r) (sym same) in
+        ap (λ (o : Option Refusal). commit_step commit o (pressed s.press)) (sym (usual_cause s commit sound) ∙ is) ∙ ap (λ (p : Pressed). let r : Told × Press = (Refused due, pressed p) in r) (sym same) in
         subst (λ (t : Word). Acts s (with_press s new) 0 (command.Commit commit) t) (sym (says due n)) (turns_commit (site_of s) usual_limits (standing s) 0 commit (Refused due) (pressed new) at)
 
 pub settle_acts : (s : Kept) (new : Pressed) (summary : Summary) (text : Word) → IsSettled s.press summary new
@@ -84,46 +86,57 @@ settle_acts s new summary text settled said = turns_settle (site_of s) usual_lim
       (h.events, h.settles, h.press),
     ))
 
--- what a request is told, by the number of the newest edition
-pub found_acts : (s : Kept) (node pass number : ℕ) (path : Path) (o : Option Page) (text : Word) → list_any (nat_eq node) s.nodes.items ≡ true → number ≡ length s.press.log → pass ≤ number
-    → fin.get (edition s.press.log) path ≡ o → text ≡ told_text (page_told number o) → Acts s s 0 (command.Get node pass path) text
-found_acts s node pass number path o text there counts reached found said =
-    let reaches : nat_lt (length s.press.log) pass ≡ false = grind (arith, nat_tests) in
-    let is : newest_told s.press.log pass path ≡ page_told (length s.press.log) o =
-    ap (λ (b : Bool). if b then Ahead pass (length s.press.log) else page_told (length s.press.log) (fin.get (edition s.press.log) path)) reaches
-    ∙ ap (page_told (length s.press.log)) found in
-    subst (λ (t : Word). Acts s s 0 (command.Get node pass path) t) (ap told_text is ∙ ap (λ (n : ℕ). told_text (page_told n o)) (sym counts) ∙ sym said)
-    (turns_get (site_of s) usual_limits (standing s) 0 node pass path there)
+-- a commit leaves the log
+commit_log : (commit : Commit) (why : Option Refusal) (old new : Pressed) (told : Told) → Tells (commit_step commit why) old told new → new.log ≡ old.log
+commit_log commit why old new told tells = ap (λ (r : Told × Press). r.1.log) (sym tells)
 
-pub ahead_acts : (s : Kept) (node pass number : ℕ) (path : Path) (text : Word) → list_any (nat_eq node) s.nodes.items ≡ true → number ≡ length s.press.log → number < pass
-    → text ≡ told_text (Ahead pass number) → Acts s s 0 (command.Get node pass path) text
-ahead_acts s node pass number path text there counts ahead said =
-    let is_ahead : nat_lt (length s.press.log) pass ≡ true = grind (arith, nat_tests) in
-    let is : newest_told s.press.log pass path ≡ Ahead pass (length s.press.log) =
-    ap (λ (b : Bool). if b then Ahead pass (length s.press.log) else page_told (length s.press.log) (fin.get (edition s.press.log) path)) is_ahead in
-    subst (λ (t : Word). Acts s s 0 (command.Get node pass path) t) (ap told_text is ∙ ap (λ (n : ℕ). told_text (Ahead pass n)) (sym counts) ∙ sym said)
-    (turns_get (site_of s) usual_limits (standing s) 0 node pass path there)
+pub accepted_sound : (s : Kept) (new : Pressed) (commit : Commit) (version : ℕ) → IsSound s → IsSamePlace s.press new → Tells (commit_step commit (refused_in s commit)) s.press (Committed version) new
+    → IsSound (with_press s new)
+accepted_sound s new commit version sound place tells = record {
+  usual = place.limits ∙ sound.usual;
+  holds = subst (AllHold s.nodes) (sym (commit_log commit (refused_in s commit) s.press new (Committed version) tells)) sound.holds;
+}
 
-pub no_node_acts : (s : Kept) (node pass : ℕ) (path : Path) (text : Word) → list_any (nat_eq node) s.nodes.items ≡ false → text ≡ told_text (NoNode node) → Acts s s 0 (command.Get node pass path) text
-no_node_acts s node pass path text none said =
-    subst (λ (t : Word). Acts s s 0 (command.Get node pass path) t) (sym said) (turns_no_node (site_of s) usual_limits (standing s) 0 node pass path none)
+pub refused_sound : (s : Kept) (new : Pressed) → IsSound s → new ≡ s.press → IsSound (with_press s new)
+refused_sound s new sound same = subst (λ (p : Pressed). IsSound (with_press s p)) (sym same) (record { usual = sound.usual; holds = sound.holds })
 
--- what is told of a node
-abbrev node_said : Bool → ℕ → Word
-node_said taken node = if taken then line (codes "node " ++ decimal node ++ codes " taken") else line (codes "node " ++ decimal node)
+-- a settle lets the log grow
+abbrev world_of : Pressed → World
+world_of p = let m : Press = pressed p in record { commits = m.commits; target = m.target; work = m.work; log = m.log; nodes = fin.empty; slots = fin.empty; replies = [] }
 
--- a node that is there is taken, and else it is made
-pub taken_acts : (s new : Kept) (node capacity : ℕ) (mode : Mode) (text : Word) (taken : Bool) → taken ≡ list_any (nat_eq node) s.nodes.items → taken ≡ true → text ≡ node_said taken node
-    → new ≡ s → Acts s new 0 (command.Node node capacity mode) text
-taken_acts s new node capacity mode text taken there is_there said same =
-    subst (λ (n : Kept). Acts s n 0 (command.Node node capacity mode) text) (sym same)
-    (subst (λ (t : Word). Acts s s 0 (command.Node node capacity mode) t) (sym (said ∙ ap (λ (b : Bool). node_said b node) is_there))
-    (turns_taken (site_of s) usual_limits (standing s) 0 node capacity mode (sym there ∙ is_there)))
+settled_log : (old new : Pressed) (summary : Summary) → IsSettled old summary new → BeginsWith new.log old.log
+settled_log old new summary settled =
+    let h = settled usual_limits (world_of old) refl (fin.get-empty nat_cmp 0) in
+    let grown = settles_grow old.works.journal.site usual_limits (world_of old) h.events h.counts h.settles in
+    (grown.0, grown.1 ∙ ap (λ (p : Press). p.log) h.press)
 
-pub made_acts : (s new : Kept) (node capacity : ℕ) (mode : Mode) (text : Word) (taken : Bool) → taken ≡ list_any (nat_eq node) s.nodes.items → taken ≡ false → text ≡ node_said taken node
-    → new.press ≡ s.press → new.nodes.items ≡ s.nodes.items ++ node ∷ [] → Acts s new 0 (command.Node node capacity mode) text
-made_acts s new node capacity mode text taken there is_new said press nodes =
-    let at : standing new ≡ record { press = pressed s.press; nodes = s.nodes.items ++ node ∷ [] } = λ i. record { press = pressed (press i); nodes = nodes i } in
-    subst (λ (n : Standing). Turns (site_of s) usual_limits (standing s) 0 (command.Node node capacity mode) text n) (sym at)
-    (subst (λ (t : Word). Turns (site_of s) usual_limits (standing s) 0 (command.Node node capacity mode) t (record { press = pressed s.press; nodes = s.nodes.items ++ node ∷ [] }))
-    (sym (said ∙ ap (λ (b : Bool). node_said b node) is_new)) (turns_made (site_of s) usual_limits (standing s) 0 node capacity mode (sym there ∙ is_new)))
+pub settled_sound : (s : Kept) (new : Pressed) (summary : Summary) → IsSound s → IsSamePlace s.press new → IsSettled s.press summary new → IsSound (with_press s new)
+settled_sound s new summary sound place settled = record {
+  usual = place.limits ∙ sound.usual;
+  holds = λ n cache is. growing_holds new.log s.press.log cache (settled_log s.press new summary settled) (sound.holds n cache is);
+}
+
+-- a command of nodes leaves the press
+abbrev pub with_nodes : Kept → Nodes → Kept
+with_nodes s nodes = record s { nodes = nodes }
+
+pub nodes_act : (s : Kept) (nodes : Nodes) (c : Command) (text : Word) (log : List Bundle) → log ≡ s.press.log → TurnsNodes log s.nodes c text nodes
+    → Turns (site_of s) usual_limits (standing s) 0 c text (standing (with_nodes s nodes))
+nodes_act s nodes c text log same turns = turns (site_of s) (pressed s.press) (sym same)
+
+pub nodes_sound : (s : Kept) (nodes : Nodes) (log : List Bundle) → log ≡ s.press.log → IsSound s → AllHold nodes log → IsSound (with_nodes s nodes)
+nodes_sound s nodes log same sound holds = record { usual = sound.usual; holds = subst (AllHold nodes) same holds }
+
+pub always_ok : {T : Type 0} {E : Type 0} {P : Type 0} (result : Result T E) → P → OnOk result P
+always_ok (Ok x) is = is
+always_ok (Err why) is = tt
+
+-- before any command
+empty_at : (nodes : Nodes) (n : ℕ) → nodes.entries ≡ [] → cache_at nodes n ≡ None
+empty_at nodes n empty = ap (lookup (λ k. is_eq (nat_cmp n k))) empty
+
+pub empty_stands : (press : Pressed) (nodes : Nodes) → pressed press ≡ first_standing.press → nodes.entries ≡ [] → standing_at (pressed press) nodes ≡ first_standing
+empty_stands press nodes first empty = λ i. record { press = first i; nodes = λ n. empty_at nodes n empty i }
+
+pub empty_sound : (press : Pressed) (nodes : Nodes) → press.works.journal.limits ≡ usual_limits → nodes.entries ≡ [] → AreSound press nodes
+empty_sound press nodes usual empty = record { usual = usual; holds = λ n cache is. absurd (none-some cache (sym (empty_at nodes n empty) ∙ is)) }

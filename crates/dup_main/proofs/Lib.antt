@@ -1,4 +1,6 @@
 pub mod Acting
+pub mod Caches
+pub mod Rooms
 pub mod CutScripts
 pub mod NumberLemmas
 pub mod PageJobs

@@ -57,7 +57,7 @@ ended site None r old new before now s p is = tt
 ended site (Some all) None old new before now s p is = absurd p
 ended site (Some all) (Some r) old new before now s p is =
     let q = subst (λ (x : Reading). IsPlayed site all x s before now p.0) is p.2 in
-    (p.0 ++ [], q.ends, q.goes [] (λ events f. refl), subst (Appends old new) (sym (append-nil p.0)) p.1)
+    (p.0 ++ [], q.ends, q.goes [] (λ events f. ([], refl)), subst (Appends old new) (sym (append-nil p.0)) p.1)
 
 -- what was answered so far, where the rest is too long
 pub reaches : (site : Parts) (a r : Option Reading) (old new : Option Word) (before now : ℕ) (s : Standing) → Played site a r old new before now s
@@ -69,7 +69,7 @@ reaches site (Some all) (Some r) old new before now s p = (
   p.1,
   record {
     ends = p.2.ends;
-    line = λ n is. (subst (λ (x : Reading). IsPlayed site all x s before now p.0) is p.2).goes _ (λ events f. refl);
-    input = λ is. (subst (λ (x : Reading). IsPlayed site all x s before now p.0) is p.2).goes _ (λ events f. refl);
+    line = λ n is. (subst (λ (x : Reading). IsPlayed site all x s before now p.0) is p.2).goes _ (λ events f. ([], refl));
+    input = λ is. (subst (λ (x : Reading). IsPlayed site all x s before now p.0) is p.2).goes _ (λ events f. ([], refl));
   },
 )

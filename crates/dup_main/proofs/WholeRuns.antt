@@ -1,5 +1,5 @@
 -- A run from its first byte: the site, and what is done with it.
-use Rattle.std.proofs.Common.{◌≡◌, inl, inr, ℕ, Bool, true, false, refl, sym, ap, ◌∙◌, subst, [], ◌++◌, append_assoc, zero-add}
+use Rattle.std.proofs.Common.{◌≡◌, inl, inr, ℕ, Bool, true, false, refl, sym, ap, ◌∙◌, subst, List, [], ◌++◌, append_assoc, zero-add}
 use Rattle.std.specs.Prelude.{None, Some, Option, Result, Ok, Err, OnOk, IfErr, IsErrAnd, if◌then◌else◌}
 use Rattle.std.specs.Bool.{OnTrue}
 use Rattle.std.specs.Option.{option_map}
@@ -13,10 +13,10 @@ use Rattle.dup_main.specs.declared.stop.Stop.TheVariants as stops
 use Rattle.dup_main.specs.Commands.{command_of}
 use Rattle.dup_transcript.specs.BadSites.{bad_site_text, or_cause}
 use Rattle.dup_transcript.specs.Turns.{Writes, first_standing}
-use Rattle.dup_main.specs.Stops.{IsSiteText, ReadsSite, CountsSite, WritesScript, StopsInScript, StopsAt, BarsSite, stop_text}
-use Rattle.dup_transcript.specs.Transcript.{commands, too_long, RendersLines, Does, DoesSite, DoesRead, IsTranscript, ending, site_for, site_ok}
+use Rattle.dup_main.specs.Stops.{IsSiteText, ReadsSite, CountsSite, WritesScript, StopsInScript, StopsInSite, StopsAt, BarsSite, stop_status, stop_text, writes}
+use Rattle.dup_transcript.specs.Transcript.{commands, too_long, RendersLines, Does, DoesSite, DoesRead, IsTranscript, ending, site_for, site_ok, too_long_input, too_long_line}
 use Rattle.dup_main.specs.Transcript.{WritesTranscript, grammars}
-use Rattle.dup_transcript.specs.Inputs.{site_text, site_lines, script}
+use Rattle.dup_transcript.specs.Inputs.{site_is_read, site_text, site_lines, script}
 use Rattle.dup_transcript.specs.declared.task.Task.{Task}
 use Rattle.dup_transcript.proofs.MachineTurns.{first_stands}
 use Rattle.dup_transcript.specs.declared.task.Task.TheVariants as tasks
@@ -26,16 +26,16 @@ abbrev pub Reads : Option Word → Option Reading → Type 0
 Reads left r = r ≡ option_map (reading 0 0) left
 
 -- a transcript of a site text that was read
-of_site : (task : Task) (all rest : Reading) (text : Word) (site : Result Parts Word) (status : ℕ) (out : Word) → IsSiteText all rest text → site_for grammars text ≡ site
-    → DoesSite grammars task site all status out → IsTranscript grammars task all status out
-of_site task all rest text site status out t is d =
-    let at_text : DoesSite grammars task (site_for grammars (site_text all)) all status out =
-    subst (λ (s : Result Parts Word). DoesSite grammars task s all status out) (sym (ap (site_for grammars) t.says ∙ is)) d in
-    subst (λ (b : Bool). DoesRead grammars task b all status out) (sym t.whole) at_text
+of_site : (task : Task) (all rest : Reading) (text : Word) (site : Result Parts Word) (kept : List Bool) (status : ℕ) (out : Word) → IsSiteText all rest text → site_for grammars text ≡ site
+    → DoesSite grammars task site all kept status out → IsTranscript grammars task all status out
+of_site task all rest text site kept status out t is d =
+    let at_text : DoesSite grammars task (site_for grammars (site_text all)) all kept status out =
+    subst (λ (s : Result Parts Word). DoesSite grammars task s all kept status out) (sym (ap (site_for grammars) t.says ∙ is)) d in
+    (kept, subst (λ (b : Bool). DoesRead grammars task b all kept status out) (sym t.whole) at_text)
 
 -- the line in place of a site
 does_bad : (task : Task) (all rest : Reading) (text line : Word) → IsSiteText all rest text → site_for grammars text ≡ Err line → IsTranscript grammars task all 5 line
-does_bad task all rest text line t bad = of_site task all rest text (Err line) 5 line t bad (refl, refl)
+does_bad task all rest text line t bad = of_site task all rest text (Err line) [] 5 line t bad (refl, refl, refl)
 
 -- a stop that bars the site
 pub bad : (task : Task) (left old : Option Word) (r rest : Option Reading) (text : Word) (stop : Stop) → Reads left r → ReadsSite r rest text → BarsSite stop (site_for grammars text)
@@ -63,6 +63,29 @@ stopped_by_site task (Err stop) e left old new r rest text seen is reads t same 
     let at : StopsAt task e left old old = bad task left old r rest text e reads t (subst (λ (w : Word). BarsSite e (site_for grammars w)) same b) in
     subst (λ (s : Stop). StopsAt task s left old new) (sym is) (subst (λ (o : Option Word). StopsAt task e left old o) (sym n) at)
 
+-- a stop within the site text
+cut_short : (task : Task) (all : Reading) (text : Word) → site_is_read all ≡ false → text ≡ too_long all → IsTranscript grammars task all 7 text
+cut_short task all text cut is = ([], subst (λ (b : Bool). DoesRead grammars task b all [] 7 text) (sym cut) (refl, refl, is))
+
+cut_at : (task : Task) (all : Reading) (stop : Stop) (old : Option Word) → StopsInSite stop (Some all) → writes stop ≡ true →
+    (done : Word) × IsTranscript grammars task all (stop_status stop) (done ++ stop_text stop) × Appends old old done
+cut_at task all (stops.LineTooLong n) old s w = ([], cut_short task all (too_long_line n) (s.0 refl).0 (sym s.1), Appends-nil old)
+cut_at task all stops.InputTooLong old s w = ([], cut_short task all too_long_input (s.0 refl).0 (sym s.1), Appends-nil old)
+cut_at task all stops.ReadFault old s w = absurd (cc)
+cut_at task all stops.NoMemory old s w = absurd (cc)
+cut_at task all stops.WriteFault old s w = absurd (cc)
+cut_at task all (stops.BadSite why) old s w = absurd s.1
+
+cut : (task : Task) (left old : Option Word) (r : Option Reading) (stop : Stop) → Reads left r → StopsInSite stop r → StopsAt task stop left old old
+cut task None old r stop is s = tt
+cut task (Some input) old r stop is s = cut_at task (reading 0 0 input) stop old (subst (StopsInSite stop) is s)
+
+pub stopped_in_site : {X : Type 0} (task : Task) (result : Result X Stop) (e : Stop) (left old new : Option Word) (r : Option Reading) → IsErrAnd result (λ s. s ≡ e)
+    → Reads left r → StopsInSite e r → new ≡ old → IfErr result (λ stop. StopsAt task stop left old new)
+stopped_in_site task (Ok x) e left old new r is reads s n = tt
+stopped_in_site task (Err stop) e left old new r is reads s n =
+    subst (λ (s : Stop). StopsAt task s left old new) (sym is) (subst (λ (o : Option Word). StopsAt task e left old o) (sym n) (cut task left old r e reads s))
+
 -- where a script follows
 pub with_script : (b : Bool) (r t u : Option Reading) (text : Word) → b ≡ true → ReadsSite r (if b then t else u) text → ReadsSite r t text
 with_script true r t u text is h = h
@@ -77,23 +100,26 @@ without_script true r t u text is h = absurd (cc)
 without_script false r t u text is h = h
 
 -- what each task says of a good site, and what it may write for the lines behind it
+abbrev DoesSome : Task → Parts → Reading → ℕ → Word → Type 0
+DoesSome task site all status out = (kept : List Bool) × Does grammars task site all kept status out
+
 pub does_play : (site : Parts) (all : Reading) (status : ℕ) (more text : Word) → site_for grammars text ≡ Ok site → status ≡ ending all
-    → Writes command_of site first_standing (site_lines all) (script all) more → Does grammars tasks.Play site all status (site_ok ++ more)
-does_play site all status more text is ends w = (ends, (more, refl, w [] first_stands))
+    → Writes command_of site first_standing (site_lines all) (script all) more → DoesSome tasks.Play site all status (site_ok ++ more)
+does_play site all status more text is ends w = let plays = w [] first_stands in (plays.0, (ends, (more, refl, plays.1)))
 
 pub does_render : (site : Parts) (all : Reading) (status : ℕ) (more text : Word) → site_for grammars text ≡ Ok site → status ≡ ending all → RendersLines command_of site (site_lines all) (script all) more
-    → Does grammars tasks.Render site all status ([] ++ more)
-does_render site all status more text is ends w = (ends, w)
+    → DoesSome tasks.Render site all status ([] ++ more)
+does_render site all status more text is ends w = ([], (refl, (ends, w)))
 
 -- a task that writes its first words on a good site, and then what it may for the lines behind the site text
 module _ (task : Task) (first : Word) (may : Parts → ℕ → Reading → Word → Type 0)
-    (does : (site : Parts) (all : Reading) (status : ℕ) (more text : Word) → site_for grammars text ≡ Ok site → status ≡ ending all → may site (site_lines all) (script all) more → Does grammars task site all status (first ++ more)) where
+    (does : (site : Parts) (all : Reading) (status : ℕ) (more text : Word) → site_for grammars text ≡ Ok site → status ≡ ending all → may site (site_lines all) (script all) more → DoesSome task site all status (first ++ more)) where
   good : (all rest : Reading) (text : Word) (site : Parts) (n status : ℕ) (more : Word) → IsSiteText all rest text → site_lines all ≡ n → site_for grammars text ≡ Ok site
       → status ≡ ending rest → may site n rest more → IsTranscript grammars task all status (first ++ more)
   good all rest text site n status more t count is ends w =
-      let inside : Does grammars task site all status (first ++ more) =
+      let inside : DoesSome task site all status (first ++ more) =
       does site all status more text is (ends ∙ sym t.ends) (subst (λ (k : ℕ). may site k (script all) more) (sym count) (subst (λ (r : Reading). may site n r more) (sym t.behind) w)) in
-      of_site task all rest text (Ok site) status (first ++ more) t is inside
+      of_site task all rest text (Ok site) inside.0 status (first ++ more) t is inside.1
 
   -- the site is good, and all lines behind it were answered
   done : (left old mid new : Option Word) (r rest : Option Reading) (text : Word) (site : Parts) (n : ℕ) → Reads left r → ReadsSite r rest text → CountsSite r 0 n

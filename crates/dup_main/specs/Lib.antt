@@ -3,6 +3,7 @@ pub mod Commands
 pub mod Kept
 pub mod LineStops
 pub mod Reach
+pub mod Serving
 pub mod Stops
 pub mod Taken
 pub mod Tasks

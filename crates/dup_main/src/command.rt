@@ -2,8 +2,8 @@ ghost use Rattle.std.specs.Prelude.{◌≡◌, IfOk, IsTrue, length};
 ghost use Rattle.std.specs.Option.{option_copied};
 ghost use Rattle.dup_feed.specs.Feed.{feed_says};
 ghost use Rattle.dup_template.specs.Good.{behind};
-ghost use Rattle.dup_main.specs.Commands.{command_of, seen};
-ghost use Rattle.dup_transcript.specs.Commands.{by_message, by_start, by_words, four_words, get_command, if_more, message_of, mode_of, node_command, of_message, one_word};
+ghost use Rattle.dup_main.specs.Commands.{HasRoom, command_of, seen};
+ghost use Rattle.dup_transcript.specs.Commands.{by_message, by_start, by_words, deliver_command, evict_command, four_words, get_command, if_more, message_of, mode_of, node_command, of_message, one_word, three_words, two_words};
 ghost use Rattle.dup_transcript.specs.Numbers.{number_of};
 
 use crate::number::read_number;
@@ -53,11 +53,52 @@ fn get_command(node: &[u8], pass: &[u8], path: &[u8]) -> Command<Commit>
     }
 }
 
+fn deliver_command(node: &[u8]) -> Command<Commit>
+    ensures { result ≡ deliver_command (number_of node.now) }
+{
+    match read_number(node) {
+        Some(node @ 1..=16) => Command::Deliver(node as u16),
+        _ => Command::NotBuilt,
+    }
+}
+
+fn evict_command(node: &[u8], path: &[u8]) -> Command<Commit>
+    ensures { result ≡ evict_command (number_of node.now) path.now }
+{
+    match (read_number(node), Path::read(path)) {
+        (Some(node @ 1..=16), Some(path)) => Command::Evict {
+            node: node as u16,
+            path,
+        },
+        _ => Command::NotBuilt,
+    }
+}
+
 fn one_word(word: &[u8]) -> Command<Commit>
     ensures { result ≡ one_word word.now }
 {
     if is_word(word, b"settle") {
         Command::Settle
+    } else {
+        Command::NotBuilt
+    }
+}
+
+fn two_words(word: &[u8], a: &[u8]) -> Command<Commit>
+    ensures { result ≡ two_words word.now a.now }
+{
+    if is_word(word, b"deliver") {
+        deliver_command(a)
+    } else {
+        Command::NotBuilt
+    }
+}
+
+fn three_words(word: &[u8], a: &[u8], b: &[u8]) -> Command<Commit>
+    ensures { result ≡ three_words word.now a.now b.now }
+{
+    if is_word(word, b"evict") {
+        evict_command(a, b)
     } else {
         Command::NotBuilt
     }
@@ -81,6 +122,8 @@ fn by_words(words: &[&[u8]]) -> Command<Commit>
 {
     match words.len() {
         1 => one_word(words[0]),
+        2 => two_words(words[0], words[1]),
+        3 => three_words(words[0], words[1], words[2]),
         4 => four_words(words[0], words[1], words[2], words[3]),
         _ => Command::NotBuilt,
     }
@@ -122,7 +165,8 @@ fn by_start(alloc: Global, text: &[u8]) -> Result<Command<Commit>, NoMemory>
 
 /// The command of a line.
 pub(crate) fn read_command(alloc: Global, text: &[u8]) -> Result<Command<Commit>, NoMemory>
-    ensures { IfOk result (λ command. command ≡ command_of text.now) }
+    ensures command { IfOk result (λ command. command ≡ command_of text.now) }
+    ensures room { IfOk result HasRoom }
 {
     by_start(alloc, trimmed(text))
 }

@@ -4,7 +4,7 @@ ghost use Rattle.dup_io.specs.Causes.{Rose};
 ghost use Rattle.dup_io.specs.Lines.{to_read, source_of, reference_of, number_of, fault_of};
 ghost use Rattle.dup_main.specs.Faults.{FaultHasCause};
 ghost use Rattle.dup_main.specs.Commands.{command_of};
-ghost use Rattle.dup_main.specs.Kept.{IsUsual, standing};
+ghost use Rattle.dup_main.specs.Kept.{IsSound, standing};
 ghost use Rattle.dup_main.specs.Stops.{StopsInScript, WritesScript};
 ghost use Rattle.dup_transcript.specs.Turns.{Writes, first_standing};
 
@@ -26,7 +26,7 @@ fn play_lines<'s, R: Threads + Sync, S: Source, K: Sink>(
     out: &mut K,
 ) -> Result<(), Stop>
     requires no_fault { fault_of lines.old ≡ None }
-    requires usual { IsUsual session.old }
+    requires sound { IsSound session.old }
     requires first { standing session.old ≡ first_standing }
     ensures same_reference { reference_of lines.new ≡ reference_of lines.old }
     ensures written { OnOk result (WritesScript

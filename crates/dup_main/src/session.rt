@@ -1,10 +1,7 @@
-ghost use Rattle.std.specs.Prelude.{◌≡◌, IfOk, nat_eq};
-ghost use Rattle.std.specs.List.{list_any};
+ghost use Rattle.std.specs.Prelude.{◌≡◌, IfOk, OnOk};
 
-use crate::texts::{
-    absent_text, ahead_text, bad_feed_text, committed_text, found_text, no_node_text, node_text,
-    not_built, refusal_text, settled_text,
-};
+use crate::serving::{Nodes, add_node, deliver, evict, get};
+use crate::texts::{bad_feed_text, committed_text, not_built, refusal_text, settled_text};
 use dup_edition::PlainOutlet;
 use dup_model::Mode;
 use dup_names::{Meter, NoMemory, Path};
@@ -21,46 +18,37 @@ use std::thread::Threads;
 #[derive(Drop)]
 pub(crate) struct Session {
     press: Press<PlainOutlet>,
-    nodes: Vec<u16>,
+    nodes: Nodes,
     meter: Meter,
 }
 
-fn has_node(nodes: &[u16], node: u16) -> bool
-    ensures { result ≡ list_any (nat_eq node) nodes.now }
-{
-    for found in nodes {
-        if node == *found {
-            return true;
-        }
-    }
-    false
-}
-
 impl Session {
-    ghost use Rattle.dup_main.specs.Kept.{Acts, IsUsual, standing};
+    ghost use Rattle.dup_main.specs.Commands.{HasRoom};
+    ghost use Rattle.dup_main.specs.Kept.{Acts, IsSound, standing};
     ghost use Rattle.dup_transcript.specs.Turns.{first_standing};
     ghost use Rattle.dup_transcript.specs.declared.command.Command.TheVariants as command;
 
     /// The session before any command.
     pub(crate) fn new(alloc: Global, site: Site) -> Result<Session, NoMemory>
         ensures site { IfOk result (λ made. made.press.works.journal.site ≡ site) }
-        ensures usual { IfOk result IsUsual }
+        ensures sound { IfOk result IsSound }
         ensures first { IfOk result (λ made. standing made ≡ first_standing) }
     {
         let site = Arc::new(alloc, site)?;
         let outlet = PlainOutlet::empty(alloc, Arc::try_clone(&site)?);
         let press = Press::new(alloc, site, Limits::default(), outlet)?;
+        let nodes = Nodes::new(alloc);
         Ok(Session {
             press,
-            nodes: Vec::new(alloc),
+            nodes,
             meter: Meter::new(),
         })
     }
 
     fn commit(&mut self, alloc: Global, commit: Commit) -> Result<Vec<u8>, NoMemory>
-        requires { IsUsual self.old }
+        requires { IsSound self.old }
         ensures site { self.new.press.works.journal.site ≡ self.old.press.works.journal.site }
-        ensures usual { IsUsual self.new }
+        ensures sound { OnOk result (IsSound self.new) }
         ensures acts { IfOk result (λ text. Acts self.old self.new 0 (command.Commit commit) text.items) }
     {
         match self.press.commit(alloc, commit) {
@@ -71,57 +59,76 @@ impl Session {
     }
 
     fn settle<R: Threads + Sync>(&mut self, rt: &R, alloc: Global) -> Result<Vec<u8>, NoMemory>
-        requires { IsUsual self.old }
+        requires { IsSound self.old }
         ensures site { self.new.press.works.journal.site ≡ self.old.press.works.journal.site }
-        ensures usual { IsUsual self.new }
+        ensures sound { OnOk result (IsSound self.new) }
         ensures acts { IfOk result (λ text. Acts self.old self.new 0 command.Settle text.items) }
     {
         let summary = self.press.settle(rt, alloc, &mut self.meter)?;
         Ok(settled_text(alloc, summary)?.into_bytes())
     }
 
-    /// Gives a node its number. Nothing is kept in its cache yet, so its capacity and mode don't count.
     fn add_node(
         &mut self,
         alloc: Global,
-        node: u16,
-        _capacity: u32,
-        _mode: Mode,
+        number: u16,
+        capacity: u32,
+        mode: Mode,
     ) -> Result<Vec<u8>, NoMemory>
-        requires { IsUsual self.old }
+        requires sound { IsSound self.old }
+        requires room { HasRoom (command.Node number capacity mode) }
         ensures site { self.new.press.works.journal.site ≡ self.old.press.works.journal.site }
-        ensures usual { IsUsual self.new }
+        ensures sound { OnOk result (IsSound self.new) }
         ensures acts { IfOk result (λ text. Acts self.old self.new 0
-            (command.Node node _capacity _mode) text.items) }
+            (command.Node number capacity mode) text.items) }
     {
-        let taken = has_node(&self.nodes, node);
-        let text = node_text(alloc, taken, node)?;
-        if !taken {
-            self.nodes.push(node)?;
-        }
-        Ok(text.into_bytes())
+        add_node(alloc, &mut self.nodes, number, capacity, mode)
     }
 
-    fn get(&self, alloc: Global, node: u16, pass: u64, path: &Path) -> Result<Vec<u8>, NoMemory>
-        ensures acts { IfOk result (λ text. Acts self.now self.now 0
-            (command.Get node pass path.now) text.items) }
+    fn deliver(&mut self, alloc: Global, number: u16) -> Result<Vec<u8>, NoMemory>
+        requires { IsSound self.old }
+        ensures site { self.new.press.works.journal.site ≡ self.old.press.works.journal.site }
+        ensures sound { OnOk result (IsSound self.new) }
+        ensures acts { IfOk result (λ text. Acts self.old self.new 0 (command.Deliver number) text.items) }
     {
-        if !has_node(&self.nodes, node) {
-            return Ok(no_node_text(alloc, node)?.into_bytes());
-        }
-        let edition = self.press.outlet();
-        let number = edition.number();
-        if pass > number {
-            return Ok(ahead_text(alloc, pass, number)?.into_bytes());
-        }
-        match edition.get(path) {
-            None => Ok(absent_text(alloc, number)?.into_bytes()),
-            Some(page) => Ok(found_text(alloc, number, page)?),
-        }
+        deliver(alloc, &mut self.nodes, self.press.outlet(), number)
+    }
+
+    fn get(
+        &mut self,
+        alloc: Global,
+        number: u16,
+        pass: u64,
+        path: &Path,
+    ) -> Result<Vec<u8>, NoMemory>
+        requires { IsSound self.old }
+        ensures site { self.new.press.works.journal.site ≡ self.old.press.works.journal.site }
+        ensures sound { OnOk result (IsSound self.new) }
+        ensures acts { IfOk result (λ text. Acts self.old self.new 0
+            (command.Get number pass path.now) text.items) }
+    {
+        get(
+            alloc,
+            &mut self.nodes,
+            self.press.outlet(),
+            number,
+            pass,
+            path,
+        )
+    }
+
+    fn evict(&mut self, alloc: Global, number: u16, path: &Path) -> Result<Vec<u8>, NoMemory>
+        requires { IsSound self.old }
+        ensures site { self.new.press.works.journal.site ≡ self.old.press.works.journal.site }
+        ensures sound { OnOk result (IsSound self.new) }
+        ensures acts { IfOk result (λ text. Acts self.old self.new 0
+            (command.Evict number path.now) text.items) }
+    {
+        evict(alloc, &mut self.nodes, number, path)
     }
 
     /// Does a command and gives its answer. A commit and a settle cost what they cost the press, a request
-    /// a look-up. After want of memory the session is of no use any more.
+    /// and a delivery what they cost the node. After want of memory the session is of no use any more.
     pub(crate) fn act<R: Threads + Sync>(
         &mut self,
         rt: &R,
@@ -129,9 +136,10 @@ impl Session {
         at_line: u64,
         command: Command<Commit>,
     ) -> Result<Vec<u8>, NoMemory>
-        requires { IsUsual self.old }
+        requires sound { IsSound self.old }
+        requires room { HasRoom command }
         ensures site { self.new.press.works.journal.site ≡ self.old.press.works.journal.site }
-        ensures usual { IsUsual self.new }
+        ensures sound { OnOk result (IsSound self.new) }
         ensures acts { IfOk result (λ text. Acts self.old self.new at_line command text.items) }
     {
         match command {
@@ -140,11 +148,13 @@ impl Session {
             Command::BadFeed(why) => bad_feed_text(alloc, why),
             Command::Settle => self.settle(rt, alloc),
             Command::Node {
-                number: node,
+                number,
                 capacity,
                 mode,
-            } => self.add_node(alloc, node, capacity, mode),
+            } => self.add_node(alloc, number, capacity, mode),
+            Command::Deliver(number) => self.deliver(alloc, number),
             Command::Get { node, pass, path } => self.get(alloc, node, pass, &path),
+            Command::Evict { node, path } => self.evict(alloc, node, &path),
             Command::NotBuilt => Ok(not_built(alloc, at_line)?.into_bytes()),
         }
     }

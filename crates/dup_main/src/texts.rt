@@ -3,13 +3,17 @@ ghost use Rattle.std.specs.Fmt.{decimal};
 ghost use Rattle.dup_model.specs.Commits.{Refusal};
 ghost use Rattle.dup_records.specs.Refusals.{Names};
 ghost use Rattle.dup_transcript.specs.BadSites.{rule_text};
-ghost use Rattle.dup_transcript.specs.Texts.{bad_feed_text, bad_line_text, found_text, refusal_text, settled_text};
+ghost use Rattle.dup_machine.specs.World as machine;
+ghost use Rattle.dup_node.specs.Replies.{how_told, reply_told};
+ghost use Rattle.dup_transcript.specs.Texts.{bad_feed_text, bad_line_text, found_text, how_word, refusal_text, settled_text, told_text};
 ghost use Rattle.dup_names.specs.Lines.{line};
 
 use crate::bad_site::put_rule;
+use dup_cache::How;
 use dup_edition::Page;
 use dup_model::FeedRefusal;
 use dup_names::NoMemory;
+use dup_node::Reply;
 use dup_press::Summary;
 use dup_records::CommitRefusal;
 use dup_template::SiteRefusal;
@@ -97,13 +101,13 @@ pub(crate) fn committed_text(alloc: Global, version: u64) -> Result<String, Allo
     format!(in alloc; "committed {version}\n")
 }
 
-pub(crate) fn absent_text(alloc: Global, edition: u64) -> Result<String, AllocError>
+fn absent_text(alloc: Global, edition: u64) -> Result<String, AllocError>
     ensures { IfOk result (λ text. string_bytes text ≡ line (codes "absent " ++ decimal edition)) }
 {
     format!(in alloc; "absent {edition}\n")
 }
 
-pub(crate) fn ahead_text(alloc: Global, pass: u64, edition: u64) -> Result<String, AllocError>
+fn ahead_text(alloc: Global, pass: u64, edition: u64) -> Result<String, AllocError>
     ensures { IfOk result (λ text. string_bytes text ≡ line (codes "ahead " ++ decimal pass ++ codes " "
         ++ decimal edition)) }
 {
@@ -138,15 +142,66 @@ pub(crate) fn settled_text(alloc: Global, summary: Summary) -> Result<String, Al
     )
 }
 
-pub(crate) fn found_text(alloc: Global, edition: u64, page: &Page) -> Result<Vec<u8>, NoMemory>
-    ensures { IfOk result (λ text. text.items ≡ found_text edition page.now) }
+pub(crate) fn delivered_text(
+    alloc: Global,
+    node: u16,
+    edition: u64,
+    entries: u32,
+) -> Result<String, AllocError>
+    ensures { IfOk result (λ text. string_bytes text
+        ≡ told_text (machine.Told.Delivered node edition entries)) }
 {
-    let version = page.version();
+    format!(in alloc; "delivered {node} edition {edition} entries {entries}\n")
+}
+
+pub(crate) fn evicted_text(found: bool) -> &'static [u8]
+    ensures { result.now ≡ told_text (machine.Told.Evicted found) }
+{
+    if found { b"evicted\n" } else { b"not kept\n" }
+}
+
+fn how_word(how: How) -> &'static str
+    ensures { result.now ≡ how_word (how_told how) }
+{
+    match how {
+        How::Hit => "hit",
+        How::Miss => "miss",
+        How::MissUnkept => "unkept",
+    }
+}
+
+fn found_line(
+    alloc: Global,
+    edition: u64,
+    version: u64,
+    how: How,
+    length: usize,
+) -> Result<String, AllocError>
+    ensures { IfOk result (λ text. string_bytes text ≡ line (codes "found " ++ decimal edition ++ codes " "
+        ++ decimal version ++ codes " " ++ how_word (how_told how) ++ codes " " ++ decimal length)) }
+{
+    let how = how_word(how);
+    format!(in alloc; "found {edition} {version} {how} {length}\n")
+}
+
+fn found_text(alloc: Global, edition: u64, page: &Page, how: How) -> Result<Vec<u8>, NoMemory>
+    ensures { IfOk result (λ text. text.items ≡ found_text edition page.now (how_told how)) }
+{
     let bytes = page.look().bytes.bytes();
-    let length = bytes.len();
-    let head = format!(in alloc; "found {edition} {version} miss {length}\n")?;
+    let head = found_line(alloc, edition, page.version(), how, bytes.len())?;
     let mut text = head.into_bytes();
     text.extend_from_slice(bytes)?;
     text.push(b'\n')?;
     Ok(text)
+}
+
+/// What is written of a reply.
+pub(crate) fn reply_text(alloc: Global, reply: &Reply) -> Result<Vec<u8>, NoMemory>
+    ensures { IfOk result (λ text. text.items ≡ told_text (machine.answered (reply_told reply.now))) }
+{
+    match reply {
+        Reply::Found { edition, page, how } => found_text(alloc, *edition, page, *how),
+        Reply::Absent { edition } => Ok(absent_text(alloc, *edition)?.into_bytes()),
+        Reply::Ahead { pass, edition } => Ok(ahead_text(alloc, pass.0, *edition)?.into_bytes()),
+    }
 }

@@ -110,7 +110,7 @@ fn a_linked_page_goes_out_first(rt: HostRuntime) -> Result<(), Fail> {
             ),
             (
                 "get 1 2 /event/e1",
-                "found 3 2 miss 29\nA<a href=\"/event/e2\">next</a>",
+                "found 3 2 hit 29\nA<a href=\"/event/e2\">next</a>",
             ),
         ],
     )

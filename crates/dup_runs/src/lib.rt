@@ -4,6 +4,8 @@
 #[cfg(test)]
 mod bodies;
 #[cfg(test)]
+mod caches;
+#[cfg(test)]
 mod causes;
 #[cfg(test)]
 mod checks;

@@ -121,7 +121,7 @@ fn lines_that_say_nothing_have_no_answer(rt: HostRuntime) -> Result<(), Fail> {
 
 #[test]
 fn commands_outside_the_table_are_not_built(rt: HostRuntime) -> Result<(), Fail> {
-    let lines: [&[u8]; 26] = [
+    let lines: [&[u8]; 37] = [
         b"hello",
         b"Settle",
         b"settle now",
@@ -146,7 +146,18 @@ fn commands_outside_the_table_are_not_built(rt: HostRuntime) -> Result<(), Fail>
         b"get 1 0 /Event",
         b"get 1 0 / now",
         b"status",
-        b"deliver 1",
+        b"begin",
+        b"deliver",
+        b"deliver 0",
+        b"deliver 17",
+        b"deliver 01",
+        b"deliver 1 now",
+        b"evict",
+        b"evict 1",
+        b"evict 0 /",
+        b"evict 17 /",
+        b"evict 1 event/e1",
+        b"evict 1 / now",
         b"\xff",
     ];
     each_answers(&rt, &lines, b"not built 9\n")

@@ -130,14 +130,14 @@ fn a_text_that_comes_back_over_a_settle_goes_out_again(rt: HostRuntime) -> Resul
                 "settle",
                 "settled 2 edition 2 bundles 1 expanded 1 joined 1 kept 0",
             ),
-            ("get 1 0 /event/e1", "found 2 2 miss 10\n<h1>B</h1>"),
+            ("get 1 0 /event/e1", "found 1 1 hit 10\n<h1>A</h1>"),
             ("get 1 3 /event/e1", "ahead 3 2"),
             ("+event e1 title=A", "committed 3"),
             (
                 "settle",
                 "settled 3 edition 3 bundles 1 expanded 1 joined 1 kept 0",
             ),
-            ("get 1 3 /event/e1", "found 3 3 miss 10\n<h1>A</h1>"),
+            ("get 1 3 /event/e1", "found 3 3 hit 10\n<h1>A</h1>"),
         ],
     )
 }
@@ -181,7 +181,7 @@ fn counts_are_of_what_is_read(rt: HostRuntime) -> Result<(), Fail> {
 }
 
 #[test]
-fn two_nodes_answer_by_the_newest_edition(rt: HostRuntime) -> Result<(), Fail> {
+fn two_nodes_catch_up_in_their_modes(rt: HostRuntime) -> Result<(), Fail> {
     row_holds(
         &rt,
         SITE,
@@ -202,7 +202,7 @@ fn two_nodes_answer_by_the_newest_edition(rt: HostRuntime) -> Result<(), Fail> {
                 "settle",
                 "settled 2 edition 2 bundles 1 expanded 1 joined 1 kept 0",
             ),
-            ("get 16 2 /event/e1", "found 2 2 miss 10\n<h1>B</h1>"),
+            ("get 16 2 /event/e1", "found 2 2 hit 10\n<h1>B</h1>"),
             ("get 2 2 /event/e1", "found 2 2 miss 10\n<h1>B</h1>"),
         ],
     )

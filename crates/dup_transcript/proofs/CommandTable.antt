@@ -12,12 +12,18 @@ use Rattle.dup_names.specs.LineWords.{line_words, is_space, spaced}
 use Rattle.dup_names.specs.Words.{Word}
 use Rattle.dup_transcript.specs.Commands.{Feed, is_capacity, is_node, mode_of, line_command, by_words}
 use Rattle.dup_transcript.specs.CommandTable.{EachIsRead, mode_word}
-use Rattle.dup_transcript.specs.declared.command.Command.TheVariants.{Settle, Node, Get, NotBuilt}
+use Rattle.dup_transcript.specs.declared.command.Command.TheVariants.{Settle, Node, Deliver, Get, Evict, NotBuilt}
 use Rattle.dup_model.specs.declared.mode.Mode.{Mode}
 use Rattle.dup_model.specs.declared.mode.Mode.TheVariants.{Invalidate, Update}
 use Rattle.dup_transcript.proofs.Numbers.{read_decimal, decimal_digits}
 
 -- a word that numbers, modes or paths follow
+words_of_two : (a b : Word) → is_word a ≡ true → is_word b ≡ true → line_words (spaced (a ∷ b ∷ [])) ≡ a ∷ b ∷ []
+words_of_two a b p q = words-law (a ∷ b ∷ []) (rw (p, q) refl)
+
+words_of_three : (a b c : Word) → is_word a ≡ true → is_word b ≡ true → is_word c ≡ true → line_words (spaced (a ∷ b ∷ c ∷ [])) ≡ a ∷ b ∷ c ∷ []
+words_of_three a b c p q r = words-law (a ∷ b ∷ c ∷ []) (rw (p, q, r) refl)
+
 words_of_four : (a b c d : Word) → is_word a ≡ true → is_word b ≡ true → is_word c ≡ true → is_word d ≡ true
     → line_words (spaced (a ∷ b ∷ c ∷ d ∷ [])) ≡ a ∷ b ∷ c ∷ d ∷ []
 words_of_four a b c d p q r s = words-law (a ∷ b ∷ c ∷ d ∷ []) (rw (p, q, r, s) refl)
@@ -85,6 +91,19 @@ module _ (feed : Feed) where
       ap by_words (words_of_four (codes "node") (decimal number) (decimal capacity) (mode_word mode) refl (decimal_word number small) (decimal_word capacity room) (mode_is_word mode))
       ∙ rw (read_decimal number small, read_decimal capacity room, mode_read mode, n, c) refl
 
+  deliver_read : (number : ℕ) → is_node number ≡ true → line_command feed (spaced (codes "deliver" ∷ decimal number ∷ [])) ≡ Deliver number
+  deliver_read number n =
+      let small = node_small number n in
+      ap by_words (words_of_two (codes "deliver") (decimal number) refl (decimal_word number small))
+      ∙ rw (read_decimal number small, n) refl
+
+  evict_read : (number : ℕ) (path : Word) → is_node number ≡ true → is_path path ≡ true →
+      line_command feed (spaced (codes "evict" ∷ decimal number ∷ path ∷ [])) ≡ Evict number path
+  evict_read number path n h =
+      let small = node_small number n in
+      ap by_words (words_of_three (codes "evict") (decimal number) path refl (decimal_word number small) (path-word path h))
+      ∙ rw (read_decimal number small, n, h) refl
+
   get_read : (number pass : ℕ) (path : Word) → is_node number ≡ true → pass < 2 ^ 64 → is_path path ≡ true →
       line_command feed (spaced (codes "get" ∷ decimal number ∷ decimal pass ∷ path ∷ [])) ≡ Get number pass path
   get_read number pass path n p h =
@@ -101,5 +120,7 @@ each_is_read feed = record {
   no_message = no_message_read feed;
   settle = settle_read feed;
   node = node_read feed;
+  deliver = deliver_read feed;
   get = get_read feed;
+  evict = evict_read feed;
 }

@@ -8,6 +8,7 @@ pub mod Numbers
 pub mod Transcripts
 pub mod WrittenLines
 pub mod Reports
+pub mod Unkept
 pub mod MachineAnswers
 pub mod MachineTurns
 pub mod ScriptRowsComputed

@@ -15,10 +15,10 @@ use Rattle.dup_model.specs.declared.mode.Mode.{Mode}
 use Rattle.dup_model.specs.declared.mode.Mode.TheVariants.{Invalidate, Update}
 use Rattle.dup_transcript.specs.declared.command.Command.TheVariants as command
 use Rattle.dup_transcript.specs.CommandTable.{mode_word}
-use Rattle.dup_transcript.specs.Commands.{Command, Feed, by_message, by_start, by_words, get_command, if_more, is_capacity, is_node, message_of, mode_of, node_command, of_message, one_word, four_words}
+use Rattle.dup_transcript.specs.Commands.{Command, Feed, by_message, by_start, by_words, deliver_command, evict_command, get_command, if_more, is_capacity, is_node, message_of, mode_of, node_command, of_message, one_word, two_words, three_words, four_words}
 use Rattle.dup_transcript.specs.Numbers.{number_of}
 use Rattle.dup_transcript.specs.OnlyTable.{IsInTable, OnlyTheTable}
-use Rattle.dup_transcript.specs.OnlyTable.IsInTable.{blank, comment, commit, settle, node, get}
+use Rattle.dup_transcript.specs.OnlyTable.IsInTable.{blank, comment, commit, settle, node, deliver, get, evict}
 use Rattle.dup_transcript.proofs.Numbers.{numbers_are_decimal}
 
 same_is : (a b : Word) → same a b ≡ true → a ≡ b
@@ -86,11 +86,44 @@ module _ (feed : Feed) (text : Word) where
       by_test true is = inl (get n pass path (and_parts _ _ is).0 ((numbers_are_decimal b pass).0 q).1 (and_parts _ _ is).1 here)
       by_test false is = inr refl
 
+  deliver_case : (a : Word) → line_words text ≡ codes "deliver" ∷ (a ∷ []) → (x : Option ℕ) → number_of a ≡ x → Either (deliver_command x)
+  deliver_case a words None p = inr refl
+  deliver_case a words (Some n) p = by_test (is_node n) refl
+    where
+      by_test : (t : Bool) → is_node n ≡ t → Either (if t then command.Deliver n else command.NotBuilt)
+      by_test true is = inl (deliver n is (words ∙ (λ i. codes "deliver" ∷ (((numbers_are_decimal a n).0 p).0 i ∷ []))))
+      by_test false is = inr refl
+
+  evict_case : (a path : Word) → line_words text ≡ codes "evict" ∷ (a ∷ (path ∷ [])) → (x : Option ℕ) → number_of a ≡ x → Either (evict_command x path)
+  evict_case a path words None p = inr refl
+  evict_case a path words (Some n) p = by_test (is_node n && is_path path) refl
+    where
+      here : line_words text ≡ codes "evict" ∷ (decimal n ∷ (path ∷ []))
+      here = words ∙ (λ i. codes "evict" ∷ (((numbers_are_decimal a n).0 p).0 i ∷ (path ∷ [])))
+
+      by_test : (t : Bool) → (is_node n && is_path path) ≡ t → Either (if t then command.Evict n path else command.NotBuilt)
+      by_test true is = inl (evict n path (and_parts _ _ is).0 (and_parts _ _ is).1 here)
+      by_test false is = inr refl
+
   one_case : (word : Word) → line_words text ≡ word ∷ [] → Either (one_word word)
   one_case word words = by_test (same word (codes "settle")) refl
     where
       by_test : (t : Bool) → same word (codes "settle") ≡ t → Either (if t then command.Settle else command.NotBuilt)
       by_test true is = inl (settle (words ∙ ap (λ w. w ∷ []) (same_is word (codes "settle") is)))
+      by_test false is = inr refl
+
+  two_case : (word a : Word) → line_words text ≡ word ∷ (a ∷ []) → Either (two_words word a)
+  two_case word a words = by_test (same word (codes "deliver")) refl
+    where
+      by_test : (t : Bool) → same word (codes "deliver") ≡ t → Either (if t then deliver_command (number_of a) else command.NotBuilt)
+      by_test true is = deliver_case a (words ∙ ap (λ w. w ∷ (a ∷ [])) (same_is word (codes "deliver") is)) (number_of a) refl
+      by_test false is = inr refl
+
+  three_case : (word a b : Word) → line_words text ≡ word ∷ (a ∷ (b ∷ [])) → Either (three_words word a b)
+  three_case word a b words = by_test (same word (codes "evict")) refl
+    where
+      by_test : (t : Bool) → same word (codes "evict") ≡ t → Either (if t then evict_command (number_of a) b else command.NotBuilt)
+      by_test true is = evict_case a b (words ∙ ap (λ w. w ∷ (a ∷ (b ∷ []))) (same_is word (codes "evict") is)) (number_of a) refl
       by_test false is = inr refl
 
   four_case : (word a b c : Word) → line_words text ≡ word ∷ (a ∷ (b ∷ (c ∷ []))) → Either (four_words word a b c)
@@ -108,8 +141,8 @@ module _ (feed : Feed) (text : Word) where
   words_case : (ws : List Word) → line_words text ≡ ws → Either (by_words ws)
   words_case [] is = inr refl
   words_case (word ∷ []) is = one_case word is
-  words_case (word ∷ (a ∷ [])) is = inr refl
-  words_case (word ∷ (a ∷ (b ∷ []))) is = inr refl
+  words_case (word ∷ (a ∷ [])) is = two_case word a is
+  words_case (word ∷ (a ∷ (b ∷ []))) is = three_case word a b is
   words_case (word ∷ (a ∷ (b ∷ (c ∷ [])))) is = four_case word a b c is
   words_case (word ∷ (a ∷ (b ∷ (c ∷ (d ∷ ds))))) is = inr refl
 

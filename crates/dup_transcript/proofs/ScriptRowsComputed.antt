@@ -1,9 +1,10 @@
 -- The worked example of a script, computed.
-use Rattle.std.proofs.Common.{◌≡◌, ℕ, zero, suc, ◌+◌, ◌<◌, refl, sym, ap, ◌∙◌, subst, List, [], ◌∷◌, ◌++◌, length, arith}
+use Rattle.std.proofs.Common.{◌≡◌, ℕ, zero, suc, ◌+◌, ◌<◌, Bool, true, false, cond, refl, sym, ap, ◌∙◌, subst, List, [], ◌∷◌, ◌++◌, drop, length, arith}
 use Rattle.std.specs.Prelude.{Option, Some, None, codes, map, Result}
 use Rattle.std.specs.Fmt.{digits}
 use Rattle.std.specs.FinMap as fin
-use Rattle.std.specs.List.{flat_map, fold}
+use Rattle.std.specs.List.{filter_map, flat_map, fold}
+use Rattle.std.specs.Ordering.{is_eq, nat_cmp}
 use Rattle.std.proofs.lemmas.List.Sums.{fold-append}
 use Rattle.dup_names.specs.Lines.{Reading, line, reading}
 use Rattle.dup_names.specs.Order.{text_cmp}
@@ -13,7 +14,10 @@ use Rattle.dup_template.specs.declared.refusal.SiteTextRefusal.{SiteTextRefusal}
 use Rattle.dup_template.specs.declared.site.Parts.{Parts}
 use Rattle.dup_model.specs.declared.feed_refusal.FeedRefusal.{FeedRefusal}
 use Rattle.dup_model.specs.declared.mode.Mode.TheVariants.{Update}
+use Rattle.dup_model.specs.Answers.{Answer, Reply, answer, missed, refreshed}
+use Rattle.dup_model.specs.Answers.How.{Hit, Miss}
 use Rattle.dup_model.specs.Bundles.{bundle}
+use Rattle.dup_model.specs.Caches.{Cache, catch_up}
 use Rattle.dup_model.specs.Commits.{Commit}
 use Rattle.dup_model.specs.Content.{Content}
 use Rattle.dup_model.specs.Editions.{Bundle, Page, bundle_of, edition}
@@ -32,7 +36,7 @@ use Rattle.dup_machine.specs.Run.{step}
 use Rattle.dup_machine.specs.Settle.{AllPublished, counts_of, publishing, settling}
 use Rattle.dup_machine.specs.Settle.Settles.{by_work}
 use Rattle.dup_machine.specs.Until.{LastTold}
-use Rattle.dup_machine.specs.World.{Counts, Event, Told, World, told}
+use Rattle.dup_machine.specs.World.{Counts, Event, Told, World, answered, told}
 use Rattle.dup_machine.specs.World.Event.{Publish}
 use Rattle.dup_machine.specs.World.Ended.{Report}
 use Rattle.dup_machine.specs.World.Told.{Committed, Finished, NothingChanged, Published}
@@ -41,7 +45,7 @@ use Rattle.dup_machine.proofs.Settling.{settle_reports}
 use Rattle.dup_transcript.specs.BadSites.{or_cause}
 use Rattle.dup_transcript.specs.Commands.{Command, line_command, of_message}
 use Rattle.dup_transcript.specs.Inputs.{script}
-use Rattle.dup_transcript.specs.MachinePlays.{MachinePlays}
+use Rattle.dup_transcript.specs.MachinePlays.{MachinePlays, PlaysBy, tells_kept}
 use Rattle.dup_transcript.specs.PressRows.{events_site, page, title}
 use Rattle.dup_transcript.specs.ScriptRows.{ScriptRow, input, output}
 use Rattle.dup_transcript.specs.Texts.{settled_text, told_text}
@@ -50,7 +54,7 @@ use Rattle.dup_transcript.specs.Turns.{PlaysFrom, Standing, Turns, first_standin
 use Rattle.dup_transcript.specs.declared.command.Command.TheVariants as command
 use Rattle.dup_transcript.specs.declared.task.Task.TheVariants.{Play}
 use Rattle.dup_transcript.proofs.MachineAnswers.{starts_ready}
-use Rattle.dup_transcript.proofs.MachineTurns.{SettlesTo, first_stands, page_told, plays_nothing, plays_turn, turns_commit, turns_get, turns_made, turns_no_node, turns_not_built, turns_settle, turns_taken}
+use Rattle.dup_transcript.proofs.MachineTurns.{PutsCache, SettlesTo, first_stands, get_no_node, new_cache, plays_nothing, plays_turn, turns_commit, turns_deliver, turns_evict, turns_get, turns_made, turns_not_built, turns_settle, turns_taken}
 use Rattle.dup_transcript.proofs.PressRowsComputed.{events_good}
 
 abbrev commit : Commit
@@ -173,27 +177,70 @@ settles w is slot =
     press_is v cs t k l = λ i. record { commits = cs i; target = t i; work = k i; log = l i }
 
 -- where the machine stands, turn by turn
-abbrev with_press_of : Press → List ℕ → Standing
-with_press_of p nodes = record { press = p; nodes = nodes }
+abbrev with_nodes : Press → (ℕ → Option Cache) → Standing
+with_nodes p nodes = record { press = p; nodes = nodes }
 
-first_turn : Turns events_site usual_limits first_standing 9 (command.Commit commit) (line (codes "committed 1")) (with_press_of committed [])
+abbrev no_node : ℕ → Option Cache
+no_node n = None
+
+abbrev one_node : Cache → ℕ → Option Cache
+one_node cache n = cond (is_eq (nat_cmp 1 n)) (Some cache) None
+
+first_turn : Turns events_site usual_limits first_standing 9 (command.Commit commit) (line (codes "committed 1")) (with_nodes committed no_node)
 unfolding digits
 first_turn = turns_commit events_site usual_limits first_standing 9 commit (Committed 1) committed refl
 
-settle_turn : Turns events_site usual_limits (with_press_of committed []) 10 command.Settle (line (codes "settled 1 edition 1 bundles 1 expanded 1 joined 1 kept 0")) (with_press_of settled [])
+settle_turn : Turns events_site usual_limits (with_nodes committed no_node) 10 command.Settle (line (codes "settled 1 edition 1 bundles 1 expanded 1 joined 1 kept 0")) (with_nodes settled no_node)
 unfolding digits
-settle_turn = turns_settle events_site usual_limits (with_press_of committed []) settled 10 _ (λ w is slot. (counted, sym (ap (settled_text 1 1) counts_are), settles w is slot))
+settle_turn = turns_settle events_site usual_limits (with_nodes committed no_node) settled 10 _ (λ w is slot. (counted, sym (ap (settled_text 1 1) counts_are), settles w is slot))
 
-abbrev last_press : Standing
-last_press = with_press_of settled (1 ∷ [])
+-- the node at first, once it has missed the page, and once the page is evicted
+abbrev new : Cache
+new = new_cache events_site usual_limits 4 Update
 
-gets : (number : ℕ) (q : Path) (o : Option Page) → fin.get (edition (only ∷ [])) q ≡ o → Turns events_site usual_limits last_press number (command.Get 1 0 q) (told_text (page_told 1 o)) last_press
-gets number q o is =
-    subst (λ (p : Option Page). Turns events_site usual_limits last_press number (command.Get 1 0 q) (told_text (page_told 1 p)) last_press) is
-    (turns_get events_site usual_limits last_press number 1 0 q refl)
+abbrev filled : Cache
+filled = record new { number = 1; entries = shown ∷ [] }
+
+abbrev emptied : Cache
+emptied = record new { number = 1; entries = [] }
+
+abbrev stands : Cache → Standing
+stands cache = with_nodes settled (one_node cache)
+
+replaces : (old cache : Cache) → PutsCache (one_node old) 1 cache (one_node cache)
+replaces old cache n = by_tie (is_eq (nat_cmp 1 n))
+  where
+    by_tie : (b : Bool) → cond b (Some cache) None ≡ cond b (Some cache) (cond b (Some old) None)
+    by_tie true = refl
+    by_tie false = refl
 
 at_path : (q : Path) → fin.get (edition (only ∷ [])) q ≡ fin.find text_cmp q ((path, shown) ∷ [])
 at_path q = fin.get-entries (edition (only ∷ [])) q ∙ ap (fin.find text_cmp q) newest
+
+abbrev absent : Path
+absent = codes "/event/e2"
+
+-- to catch up changes nothing
+abbrev caught : Option Page → Cache
+caught o = record new { number = 1; entries = filter_map (λ page. o) (shown ∷ []) }
+
+still : catch_up (only ∷ []) filled ≡ filled
+still = ap caught (at_path path)
+
+missed_first : answer new (only ∷ []) 0 path true ≡ record { reply = Reply.Found 1 shown Miss; cache = filled }
+missed_first = ap (missed (catch_up (only ∷ []) new) true) (at_path path)
+
+absent_then : answer filled (only ∷ []) 0 absent true ≡ record { reply = Reply.Absent 1; cache = filled }
+absent_then = ap (λ (c : Cache). refreshed c (edition (only ∷ [])) 0 absent true) still ∙ ap (missed filled true) (at_path absent)
+
+hit_then : answer filled (only ∷ []) 0 path true ≡ record { reply = Reply.Found 1 shown Hit; cache = filled }
+hit_then = refl
+
+gets : (number : ℕ) (q : Path) (old cache : Cache) (reply : Reply) → tells_kept (answered reply) ≡ true → answer old (only ∷ []) 0 q true ≡ record { reply = reply; cache = cache }
+    → Turns events_site usual_limits (stands old) number (command.Get 1 0 q) (told_text (answered reply)) (stands cache)
+gets number q old cache reply kept is =
+    turns_get events_site usual_limits (stands old) (stands cache) number 1 0 q old cache true reply refl (sym kept)
+    (ap (λ (a : Answer). a.reply) (sym is)) (ap (λ (a : Answer). a.cache) (sym is)) refl (replaces old cache)
 
 -- a command, its text, and where the machine stands then
 record Answered : Type 0 where
@@ -219,30 +266,48 @@ all_play s number (t ∷ turns) h =
 -- the turns behind the settle, and all of them
 abbrev later : List Answered
 later =
-    record { asks = command.Node 1 4 Update; text = line (codes "node 1"); leads = last_press } ∷
-    (record { asks = command.Get 1 0 path; text = line (codes "found 1 1 miss 13") ++ line (codes "<h1>100m</h1>"); leads = last_press } ∷
-    (record { asks = command.Get 1 0 (codes "/event/e2"); text = line (codes "absent 1"); leads = last_press } ∷
-    (record { asks = command.Get 2 0 (codes "/"); text = line (codes "no node 2"); leads = last_press } ∷
-    (record { asks = command.NotBuilt; text = line (codes "not built 15"); leads = last_press } ∷
-    (record { asks = command.Node 1 4 Update; text = line (codes "node 1 taken"); leads = last_press } ∷ [])))))
+    record { asks = command.Node 1 4 Update; text = line (codes "node 1"); leads = stands new } ∷
+    (record { asks = command.Get 1 0 path; text = line (codes "found 1 1 miss 13") ++ line (codes "<h1>100m</h1>"); leads = stands filled } ∷
+    (record { asks = command.Get 1 0 absent; text = line (codes "absent 1"); leads = stands filled } ∷
+    (record { asks = command.Get 2 0 (codes "/"); text = line (codes "no node 2"); leads = stands filled } ∷
+    (record { asks = command.NotBuilt; text = line (codes "not built 15"); leads = stands filled } ∷
+    (record { asks = command.Node 1 4 Update; text = line (codes "node 1 taken"); leads = stands filled } ∷
+    (record { asks = command.Get 1 0 path; text = line (codes "found 1 1 hit 13") ++ line (codes "<h1>100m</h1>"); leads = stands filled } ∷
+    (record { asks = command.Evict 1 path; text = line (codes "evicted"); leads = stands emptied } ∷
+    (record { asks = command.Deliver 1; text = line (codes "delivered 1 edition 1 entries 0"); leads = stands emptied } ∷ []))))))))
 
-later_turn : AllTurn (with_press_of settled []) 10 later
+later_turn : AllTurn (with_nodes settled no_node) 10 later
 unfolding digits
 later_turn = (
-  turns_made events_site usual_limits (with_press_of settled []) 11 1 4 Update refl,
-  (
-    gets 12 path (Some shown) (at_path path),
-    (
-      gets 13 (codes "/event/e2") None (at_path (codes "/event/e2")),
-      (turns_no_node events_site usual_limits last_press 14 2 0 (codes "/") refl, (turns_not_built events_site usual_limits last_press 15, (turns_taken events_site usual_limits last_press 16 1 4 Update refl, tt))),
-    ),
-  ),
+  turns_made events_site usual_limits (with_nodes settled no_node) (stands new) 11 1 4 Update refl refl (λ n. refl),
+  (gets 12 path new filled (Reply.Found 1 shown Miss) refl missed_first, last_turns),
 )
+  where
+    last_turns : AllTurn (stands filled) 12 (drop 2 later)
+    last_turns = (
+      gets 13 absent filled filled (Reply.Absent 1) refl absent_then,
+      (
+        get_no_node events_site usual_limits (stands filled) 14 2 0 (codes "/") refl,
+        (
+          turns_not_built events_site usual_limits (stands filled) 15,
+          (
+            turns_taken events_site usual_limits (stands filled) 16 1 4 Update filled refl,
+            (
+              gets 17 path filled filled (Reply.Found 1 shown Hit) refl hit_then,
+              (
+                turns_evict events_site usual_limits (stands filled) (stands emptied) 18 1 path filled emptied true refl refl refl refl (replaces filled emptied),
+                (turns_deliver events_site usual_limits (stands emptied) (stands emptied) 19 1 emptied emptied refl refl refl (replaces emptied emptied), tt),
+              ),
+            ),
+          ),
+        ),
+      ),
+    )
 
 abbrev all_turns : List Answered
 all_turns =
-    record { asks = command.Commit commit; text = line (codes "committed 1"); leads = with_press_of committed [] } ∷
-    (record { asks = command.Settle; text = line (codes "settled 1 edition 1 bundles 1 expanded 1 joined 1 kept 0"); leads = with_press_of settled [] } ∷ later)
+    record { asks = command.Commit commit; text = line (codes "committed 1"); leads = with_nodes committed no_node } ∷
+    (record { asks = command.Settle; text = line (codes "settled 1 edition 1 bundles 1 expanded 1 joined 1 kept 0"); leads = with_nodes settled no_node } ∷ later)
 
 all_turn : AllTurn first_standing 8 all_turns
 all_turn = (first_turn, (settle_turn, later_turn))
@@ -251,6 +316,6 @@ pub script_row : ScriptRow
 script_row g h =
     let read : Reading = reading 0 0 input in
     let replied : MachinePlays events_site usual_limits [] 8 (command.Commit commit ∷ (command.Settle ∷ all_asked later)) [] (all_said all_turns) = all_play first_standing 8 all_turns all_turn [] first_stands in
-    let played : PlaysScript (line_command g.feed) events_site 8 (script read) (all_said all_turns) =
-    subst (λ (m : Result Commit FeedRefusal). MachinePlays events_site usual_limits [] 8 (of_message m ∷ (command.Settle ∷ all_asked later)) [] (all_said all_turns)) (sym h.feed) replied in
-    subst (λ (s : Result Parts SiteTextRefusal). DoesSite g Play (or_cause s) read 0 output) (sym h.site) (refl, (all_said all_turns, refl, played))
+    let played : PlaysScript (line_command g.feed) events_site 8 (script read) replied.0 (all_said all_turns) =
+    subst (λ (m : Result Commit FeedRefusal). PlaysBy events_site usual_limits [] 8 (of_message m ∷ (command.Settle ∷ all_asked later)) replied.0 [] (all_said all_turns)) (sym h.feed) replied.1 in
+    (replied.0, subst (λ (s : Result Parts SiteTextRefusal). DoesSite g Play (or_cause s) read replied.0 0 output) (sym h.site) (refl, (all_said all_turns, refl, played)))

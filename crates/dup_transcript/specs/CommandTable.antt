@@ -6,7 +6,7 @@ use Rattle.dup_names.specs.Grammar.{is_path}
 use Rattle.dup_names.specs.LineWords.{is_space, spaced}
 use Rattle.dup_names.specs.Words.{Word}
 use Rattle.dup_transcript.specs.Commands.{Feed, is_capacity, is_node, line_command, of_message}
-use Rattle.dup_transcript.specs.declared.command.Command.TheVariants.{Blank, Settle, Node, Get, NotBuilt}
+use Rattle.dup_transcript.specs.declared.command.Command.TheVariants.{Blank, Settle, Node, Deliver, Get, Evict, NotBuilt}
 use Rattle.dup_model.specs.declared.mode.Mode.{Mode}
 use Rattle.dup_model.specs.declared.mode.Mode.TheVariants.{Invalidate, Update}
 
@@ -28,9 +28,13 @@ pub record ReadsEach (feed : Feed) : Type 0 where
   pub node : (number capacity : ℕ) (mode : Mode) → is_node number ≡ true → is_capacity capacity ≡ true →
       line_command feed (spaced (codes "node" ∷ decimal number ∷ decimal capacity ∷ mode_word mode
       ∷ [])) ≡ Node number capacity mode
+  pub deliver : (number : ℕ) → is_node number ≡ true →
+      line_command feed (spaced (codes "deliver" ∷ decimal number ∷ [])) ≡ Deliver number
   pub get : (number pass : ℕ) (path : Word) → is_node number ≡ true → pass < 2 ^ 64 → is_path path ≡ true →
       line_command feed (spaced (codes "get" ∷ decimal number ∷ decimal pass ∷ path
       ∷ [])) ≡ Get number pass path
+  pub evict : (number : ℕ) (path : Word) → is_node number ≡ true → is_path path ≡ true →
+      line_command feed (spaced (codes "evict" ∷ decimal number ∷ path ∷ [])) ≡ Evict number path
 
 abbrev pub EachIsRead : Type 0
 EachIsRead = (feed : Feed) → ReadsEach feed

@@ -10,7 +10,7 @@ use Rattle.dup_model.specs.Commits.{Commit}
 use Rattle.dup_transcript.specs.Numbers.{number_of}
 use Rattle.dup_transcript.specs.declared.command.Command.{Command as CommandOf}
 use Rattle.dup_transcript.specs.declared.command.Command.TheVariants as command
-use Rattle.dup_transcript.specs.declared.command.Command.TheVariants.{Blank, Settle, Node, Get, NotBuilt}
+use Rattle.dup_transcript.specs.declared.command.Command.TheVariants.{Blank, Settle, Node, Deliver, Get, Evict, NotBuilt}
 use Rattle.dup_model.specs.declared.feed_refusal.FeedRefusal.{FeedRefusal}
 use Rattle.dup_model.specs.declared.mode.Mode.{Mode}
 use Rattle.dup_model.specs.declared.mode.Mode.TheVariants.{Invalidate, Update}
@@ -45,8 +45,24 @@ get_command (Some node) (Some pass) path = if is_node node && is_path path then 
     else NotBuilt
 get_command _ _ path = NotBuilt
 
+-- `deliver S`
+abbrev pub deliver_command : Option ℕ → Command
+deliver_command (Some node) = if is_node node then Deliver node else NotBuilt
+deliver_command None = NotBuilt
+
+-- `evict S PATH`
+abbrev pub evict_command : Option ℕ → Word → Command
+evict_command (Some node) path = if is_node node && is_path path then Evict node path else NotBuilt
+evict_command None path = NotBuilt
+
 abbrev pub one_word : Word → Command
 one_word word = if same word (codes "settle") then Settle else NotBuilt
+
+abbrev pub two_words : Word → Word → Command
+two_words word a = if same word (codes "deliver") then deliver_command (number_of a) else NotBuilt
+
+abbrev pub three_words : Word → Word → Word → Command
+three_words word a b = if same word (codes "evict") then evict_command (number_of a) b else NotBuilt
 
 abbrev pub four_words : Word → Word → Word → Word → Command
 four_words word a b c =
@@ -55,6 +71,8 @@ four_words word a b c =
 
 abbrev pub by_words : List Word → Command
 by_words (word ∷ []) = one_word word
+by_words (word ∷ a ∷ []) = two_words word a
+by_words (word ∷ a ∷ b ∷ []) = three_words word a b
 by_words (word ∷ a ∷ b ∷ c ∷ []) = four_words word a b c
 by_words _ = NotBuilt
 

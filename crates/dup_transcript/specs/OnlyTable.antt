@@ -21,9 +21,15 @@ pub data IsInTable (feed : Feed) (text : Word) : Command → Type 0 where
   node : (number capacity : ℕ) (mode : Mode) → is_node number ≡ true → is_capacity capacity ≡ true →
       line_words text ≡ codes "node" ∷ (decimal number ∷ (decimal capacity ∷ (mode_word mode ∷ []))) →
       IsInTable feed text (command.Node number capacity mode)
+  deliver : (number : ℕ) → is_node number ≡ true →
+      line_words text ≡ codes "deliver" ∷ (decimal number ∷ []) →
+      IsInTable feed text (command.Deliver number)
   get : (number pass : ℕ) (path : Word) → is_node number ≡ true → pass < 2 ^ 64 → is_path path ≡ true →
       line_words text ≡ codes "get" ∷ (decimal number ∷ (decimal pass ∷ (path ∷ []))) →
       IsInTable feed text (command.Get number pass path)
+  evict : (number : ℕ) (path : Word) → is_node number ≡ true → is_path path ≡ true →
+      line_words text ≡ codes "evict" ∷ (decimal number ∷ (path ∷ [])) →
+      IsInTable feed text (command.Evict number path)
 
 -- each line is one of the table, or isn't built
 abbrev pub OnlyTheTable : Type 0

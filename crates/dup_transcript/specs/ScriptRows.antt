@@ -29,7 +29,10 @@ script_lines =
     codes "get 1 0 /event/e2" ∷
     codes "get 2 0 /" ∷
     codes "hello" ∷
-    codes "node 1 4 update" ∷ []
+    codes "node 1 4 update" ∷
+    codes "get 1 0 /event/e1" ∷
+    codes "evict 1 /event/e1" ∷
+    codes "deliver 1" ∷ []
 
 abbrev pub input : Word
 input = text_of (site_lines ++ codes "---" ∷ script_lines)
@@ -45,7 +48,11 @@ output = text_of (
     codes "absent 1" ∷
     codes "no node 2" ∷
     codes "not built 15" ∷
-    codes "node 1 taken" ∷ [])
+    codes "node 1 taken" ∷
+    codes "found 1 1 hit 13" ∷
+    codes "<h1>100m</h1>" ∷
+    codes "evicted" ∷
+    codes "delivered 1 edition 1 entries 0" ∷ [])
 
 -- what the grammars that stand above say of this site text and of this feed message
 pub record ReadsScript (g : Grammars) : Type 0 where

@@ -1,6 +1,6 @@
 -- The run of a script: the events that its commands stand for, and what holds of them. The law above:
 -- `runs_of_scripts_law`.
-use Rattle.std.specs.Prelude.{◌≡◌, ℕ, ◌+◌, true, List, [], ◌∷◌, ◌++◌, Ok}
+use Rattle.std.specs.Prelude.{◌≡◌, ℕ, ◌+◌, Bool, true, List, [], ◌∷◌, ◌++◌, Ok}
 use Rattle.dup_names.specs.Lines.{Reading}
 use Rattle.dup_names.specs.Words.{Word}
 use Rattle.dup_template.specs.declared.site.Parts.{Parts}
@@ -26,11 +26,11 @@ LeavesNothing site w _ = Unit {0}
 abbrev pub PlaysEvents : Parts → Limits → List Event → ℕ → List Command → Word → Word → List Event → Type 0
 PlaysEvents site limits before number [] last out all = (out ≡ last) × (all ≡ before)
 PlaysEvents site limits before number (command ∷ rest) last out all =
-    (events : List Event) × ((said : Word) × ((more : Word)
-    × StandsFor site limits (run site limits before) (number + 1) command events said
+    (kept : Bool) × ((events : List Event) × ((said : Word) × ((more : Word)
+    × StandsFor site limits (run site limits before) (number + 1) command kept events said
     × (out ≡ said ++ more)
     × LeavesNothing site (run site limits (before ++ events)) command
-    × PlaysEvents site limits (before ++ events) (number + 1) rest last more all))
+    × PlaysEvents site limits (before ++ events) (number + 1) rest last more all)))
 
 -- what is written for a script behind a site text of so many lines is what the machine replies to some
 -- events, and of their run the headline holds

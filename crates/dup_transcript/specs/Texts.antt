@@ -1,5 +1,5 @@
 -- What is written of the machine's replies.
-use Rattle.std.specs.Prelude.{ℕ, [], ◌++◌, codes, length}
+use Rattle.std.specs.Prelude.{ℕ, true, false, [], ◌++◌, codes, length}
 use Rattle.std.specs.Fmt.{decimal}
 use Rattle.dup_names.specs.Lines.{line}
 use Rattle.dup_names.specs.Words.{Word}
@@ -8,9 +8,11 @@ use Rattle.dup_model.specs.Commits.{UnknownKind, UnknownTemplate}
 use Rattle.dup_model.specs.declared.feed_refusal.FeedRefusal.{FeedRefusal}
 use Rattle.dup_model.specs.declared.feed_refusal.FeedRefusal.TheVariants.{NotJson, Shape, TooMany, NoMemory}
 use Rattle.dup_transcript.specs.BadSites.{rule_text}
+use Rattle.dup_model.specs.Answers.{How}
+use Rattle.dup_model.specs.Answers.How.{Hit, Miss, MissUnkept}
 use Rattle.dup_model.specs.Editions.{Page}
 use Rattle.dup_machine.specs.World.{Counts, Told}
-use Rattle.dup_machine.specs.World.Told.{Committed, Refused, NodeMade, NodeTaken, NoNode, Found, Absent, Ahead}
+use Rattle.dup_machine.specs.World.Told.{Committed, Refused, NodeMade, NodeTaken, NoNode, Delivered, Found, Absent, Ahead, Evicted}
 
 abbrev pub refusal_text : Refusal → Word
 refusal_text (UnknownKind n) = line (codes "refused unknown kind at " ++ decimal n)
@@ -21,11 +23,16 @@ refusal_text (JournalFull commits bytes) = line (codes "refused journal full")
 refusal_text (UnknownTemplate n) = line (codes "refused unknown template at " ++ decimal n)
 refusal_text (BadBody n why) = line (codes "refused bad body at " ++ decimal n ++ codes ": " ++ rule_text why)
 
--- a page of an edition: a line, and its bytes. Nothing is kept in a cache yet, so each is a miss
-abbrev pub found_text : ℕ → Page → Word
-found_text edition page =
-    line (codes "found " ++ decimal edition ++ codes " " ++ decimal page.version ++ codes " miss "
-    ++ decimal (length page.look.bytes)) ++ line page.look.bytes
+abbrev pub how_word : How → Word
+how_word Hit = codes "hit"
+how_word Miss = codes "miss"
+how_word MissUnkept = codes "unkept"
+
+-- a page of an edition, and how it was found: a line, and its bytes
+abbrev pub found_text : ℕ → Page → How → Word
+found_text edition page how =
+    line (codes "found " ++ decimal edition ++ codes " " ++ decimal page.version ++ codes " " ++ how_word how
+    ++ codes " " ++ decimal (length page.look.bytes)) ++ line page.look.bytes
 
 -- what is written of one reply, of those that a script meets today
 abbrev pub told_text : Told → Word
@@ -34,9 +41,14 @@ told_text (Refused why) = refusal_text why
 told_text (NodeMade node) = line (codes "node " ++ decimal node)
 told_text (NodeTaken node) = line (codes "node " ++ decimal node ++ codes " taken")
 told_text (NoNode node) = line (codes "no node " ++ decimal node)
-told_text (Found edition page how) = found_text edition page
+told_text (Delivered node edition entries) =
+    line (codes "delivered " ++ decimal node ++ codes " edition " ++ decimal edition ++ codes " entries "
+    ++ decimal entries)
+told_text (Found edition page how) = found_text edition page how
 told_text (Absent edition) = line (codes "absent " ++ decimal edition)
 told_text (Ahead pass edition) = line (codes "ahead " ++ decimal pass ++ codes " " ++ decimal edition)
+told_text (Evicted true) = line (codes "evicted")
+told_text (Evicted false) = line (codes "not kept")
 told_text _ = []
 
 -- what is written of settling: the edition, the bundles that made it, and what the work's report says

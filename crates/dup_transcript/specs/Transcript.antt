@@ -1,6 +1,6 @@
 -- The transcript of an input: what `play`, `check` and `render` write for it, and how they end. The law
 -- above: `transcripts_law`.
-use Rattle.std.specs.Prelude.{◌≡◌, ℕ, Bool, true, false, List, [], ◌∷◌, ◌++◌, codes, if◌then◌else◌, nat_eq, Result, Ok, Err}
+use Rattle.std.specs.Prelude.{◌≡◌, ◌≢◌, ℕ, Bool, true, false, List, [], ◌∷◌, ◌++◌, codes, if◌then◌else◌, nat_eq, Result, Ok, Err}
 use Rattle.std.specs.Fmt.{decimal}
 use Rattle.dup_names.specs.Lines.{Reading, Whole, Next, LongLine, LongInput, line}
 use Rattle.dup_names.specs.Words.{Word}
@@ -14,7 +14,7 @@ use Rattle.dup_model.specs.Content.{Content}
 use Rattle.dup_model.specs.Journal.{usual_limits}
 use Rattle.dup_transcript.specs.Inputs.{script, site_is_read, site_lines, site_text}
 use Rattle.dup_transcript.specs.RenderedPages.{last_content, render_answers, rendered_pages}
-use Rattle.dup_transcript.specs.MachinePlays.{MachinePlays}
+use Rattle.dup_transcript.specs.MachinePlays.{PlaysBy}
 use Rattle.dup_transcript.specs.declared.task.Task.{Task}
 use Rattle.dup_transcript.specs.declared.task.Task.TheVariants.{Play, Check, Render}
 
@@ -58,18 +58,18 @@ abbrev pub commands : (Word → Command) → Reading → List Command
 commands asks (Next text rest) = asks text ∷ commands asks rest
 commands asks _ = []
 
--- what is written for a script behind a site text of so many lines: what the machine replies to its commands,
--- within the usual limits, and what is too long
-abbrev pub PlaysScript : (Word → Command) → Parts → ℕ → Reading → Word → Type 0
-PlaysScript asks site number input out =
-    MachinePlays site usual_limits [] number (commands asks input) (too_long input) out
+-- what is written for a script behind a site text of so many lines, where just these pages are kept: what the
+-- machine replies to its commands, within the usual limits, and what is too long
+abbrev pub PlaysScript : (Word → Command) → Parts → ℕ → Reading → List Bool → Word → Type 0
+PlaysScript asks site number input kept out =
+    PlaysBy site usual_limits [] number (commands asks input) kept (too_long input) out
 
 -- a site is played: `site ok`, and then the answers to the script
-abbrev pub Plays : (Word → Command) → Parts → Reading → ℕ → Word → Type 0
-Plays asks site input status out =
+abbrev pub Plays : (Word → Command) → Parts → Reading → List Bool → ℕ → Word → Type 0
+Plays asks site input kept status out =
     (status ≡ ending input)
     × ((more : Word) × (out ≡ site_ok ++ more)
-    × PlaysScript asks site (site_lines input) (script input) more)
+    × PlaysScript asks site (site_lines input) (script input) kept more)
 
 -- what stands behind the answers of a render: the pages of the last content, where nothing is too long
 abbrev pub render_end : Content → Reading → Word
@@ -94,33 +94,51 @@ Renders asks site input status out = (status ≡ ending input)
 abbrev pub Checks : Word → ℕ → Word → Type 0
 Checks canonical status out = (status ≡ 0) × (out ≡ canonical)
 
-abbrev pub Does : Grammars → Task → Parts → Reading → ℕ → Word → Type 0
-Does g Play site input status out = Plays (line_command g.feed) site input status out
-Does g Check site input status out = Checks (g.canonical site) status out
-Does g Render site input status out = Renders (line_command g.feed) site input status out
+-- what a task makes of a good site, where just these pages are kept; only a script that is played keeps any
+abbrev pub Does : Grammars → Task → Parts → Reading → List Bool → ℕ → Word → Type 0
+Does g Play site input kept status out = Plays (line_command g.feed) site input kept status out
+Does g Check site input kept status out = (kept ≡ []) × Checks (g.canonical site) status out
+Does g Render site input kept status out = (kept ≡ []) × Renders (line_command g.feed) site input status out
 
 -- the good site of a text, or the line that is written in its place
 abbrev pub site_for : Grammars → Word → Result Parts Word
 site_for g text = or_cause (g.site text)
 
-abbrev pub DoesSite : Grammars → Task → Result Parts Word → Reading → ℕ → Word → Type 0
-DoesSite g task (Ok site) input status out = Does g task site input status out
-DoesSite g task (Err why) input status out = (status ≡ 5) × (out ≡ why)
+abbrev pub DoesSite : Grammars → Task → Result Parts Word → Reading → List Bool → ℕ → Word → Type 0
+DoesSite g task (Ok site) input kept status out = Does g task site input kept status out
+DoesSite g task (Err why) input kept status out = (kept ≡ []) × (status ≡ 5) × (out ≡ why)
 
-abbrev pub DoesRead : Grammars → Task → Bool → Reading → ℕ → Word → Type 0
-DoesRead g task false input status out = (status ≡ 7) × (out ≡ too_long input)
-DoesRead g task true input status out = DoesSite g task (site_for g (site_text input)) input status out
+abbrev pub DoesRead : Grammars → Task → Bool → Reading → List Bool → ℕ → Word → Type 0
+DoesRead g task false input kept status out = (kept ≡ []) × (status ≡ 7) × (out ≡ too_long input)
+DoesRead g task true input kept status out = DoesSite g task (site_for g (site_text input)) input kept status out
 
--- the transcript of an input: the status, and all that is written
+-- the transcript of an input where just these pages are kept: the status, and all that is written
+abbrev pub IsTranscriptBy : Grammars → Task → Reading → List Bool → ℕ → Word → Type 0
+IsTranscriptBy g task input kept status out = DoesRead g task (site_is_read input) input kept status out
+
+-- a transcript of an input, whichever pages are kept
 abbrev pub IsTranscript : Grammars → Task → Reading → ℕ → Word → Type 0
-IsTranscript g task input status out = DoesRead g task (site_is_read input) input status out
+IsTranscript g task input status out = (kept : List Bool) × IsTranscriptBy g task input kept status out
 
--- each input has a transcript, and only one
+-- each input has a transcript
 abbrev pub TranscriptsExist : Type 0
 TranscriptsExist = (g : Grammars) → GivesGoodSites g → (task : Task) (input : Reading) → (status : ℕ)
     × ((out : Word) × IsTranscript g task input status out)
 
+-- and only one where the same pages are kept
 abbrev pub TranscriptsAreOne : Type 0
 TranscriptsAreOne = (g : Grammars) → GivesGoodSites g →
-    (task : Task) (input : Reading) (s t : ℕ) (out other : Word) →
+    (task : Task) (input : Reading) (kept : List Bool) (s t : ℕ) (out other : Word) →
+    IsTranscriptBy g task input kept s out → IsTranscriptBy g task input kept t other →
+    (s ≡ t) × (out ≡ other)
+
+-- which these are, what is written tells
+abbrev pub TranscriptsTellKept : Type 0
+TranscriptsTellKept = (g : Grammars) → GivesGoodSites g →
+    (task : Task) (input : Reading) (kept others : List Bool) (s t : ℕ) (out : Word) →
+    IsTranscriptBy g task input kept s out → IsTranscriptBy g task input others t out → kept ≡ others
+
+-- but for `play` there is one
+abbrev pub OtherTasksHaveOne : Type 0
+OtherTasksHaveOne = (g : Grammars) (task : Task) (input : Reading) (s t : ℕ) (out other : Word) → task ≢ Play →
     IsTranscript g task input s out → IsTranscript g task input t other → (s ≡ t) × (out ≡ other)

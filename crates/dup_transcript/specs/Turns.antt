@@ -1,6 +1,6 @@
--- Where the machine stands between the commands of a script: its press, and the nodes, which keep nothing yet.
-use Rattle.std.specs.Prelude.{◌≡◌, ℕ, List, [], Some, None, is_some, nat_eq}
-use Rattle.std.specs.List.{fold, list_any}
+-- Where the machine stands between the commands of a script: its press, and the caches of its nodes.
+use Rattle.std.specs.Prelude.{◌≡◌, ℕ, Bool, List, [], Option, None}
+use Rattle.std.specs.List.{fold}
 use Rattle.std.specs.FinMap as fin
 use Rattle.dup_names.specs.Lines.{Reading}
 use Rattle.dup_names.specs.Words.{Word}
@@ -15,31 +15,29 @@ use Rattle.dup_transcript.specs.Commands.{Command}
 use Rattle.dup_transcript.specs.MachinePlays.{MachinePlays, StandsFor}
 use Rattle.dup_transcript.specs.Transcript.{commands, too_long}
 
--- a press, and the numbers of the nodes
+-- a press, and the cache of each node that is there, by its number
 pub record Standing : Type 0 where
   pub press : Press
-  pub nodes : List ℕ
+  pub nodes : ℕ → Option Cache
 
 abbrev pub first_standing : Standing
 first_standing = record {
   press = record { commits = []; target = None; work = None; log = [] };
-  nodes = [];
+  nodes = λ n. None;
 }
 
--- the machine stands so: its press is this one, the slot of a settle is empty, there are just these nodes, and
--- no page is kept in their caches
+-- the machine stands so: its press is this one, the slot of a settle is empty, and its nodes have these caches
 pub record StandsAs (s : Standing) (w : World) : Type 0 where
   pub press : press_of w ≡ s.press
   pub slot : fin.get w.slots 0 ≡ None
-  pub nodes : (n : ℕ) → is_some (fin.get w.nodes n) ≡ list_any (nat_eq n) s.nodes
-  pub empty : (n : ℕ) (cache : Cache) → fin.get w.nodes n ≡ Some cache → cache.entries ≡ []
+  pub nodes : (n : ℕ) → fin.get w.nodes n ≡ s.nodes n
 
 -- wherever the machine stands as the first, this may be written for the command of this line, and it stands as
 -- the second then
 abbrev pub Turns : Parts → Limits → Standing → ℕ → Command → Word → Standing → Type 0
 Turns site limits old number command out new =
-    (w : World) → StandsAs old w → (events : List Event) × StandsFor site limits w number command events out
-    × StandsAs new (fold (step site limits) w events)
+    (w : World) → StandsAs old w → (kept : Bool) × (events : List Event)
+    × StandsFor site limits w number command kept events out × StandsAs new (fold (step site limits) w events)
 
 -- wherever the machine stands so, this may be written for commands behind so many lines, where this is written
 -- last

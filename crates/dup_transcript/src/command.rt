@@ -14,9 +14,14 @@ pub enum Command<C> {
         capacity: u32,
         mode: Mode,
     },
+    Deliver(u16),
     Get {
         node: u16,
         pass: u64,
+        path: Path,
+    },
+    Evict {
+        node: u16,
         path: Path,
     },
     NotBuilt,

@@ -4,13 +4,14 @@ ghost use Rattle.dup_transcript.specs.MachinePlays.{
   CommandsLeaveReady,
   PlaysAreOne,
   PlaysExist,
+  PlaysTellKept,
   SettlesLeaveNothing,
   StartsReady,
 };
 ghost use Rattle.dup_transcript.specs.OnlyTable.{OnlyTheTable};
 ghost use Rattle.dup_transcript.specs.Numbers.{NumbersAreDecimal};
 ghost use Rattle.dup_transcript.specs.ScriptRuns.{TranscriptsAreRuns};
-ghost use Rattle.dup_transcript.specs.Transcript.{TranscriptsAreOne, TranscriptsExist};
+ghost use Rattle.dup_transcript.specs.Transcript.{OtherTasksHaveOne, TranscriptsAreOne, TranscriptsExist, TranscriptsTellKept};
 ghost use Rattle.dup_transcript.specs.WrittenLines.{LinesAreFound, LinesAreRead};
 
 /// Lines that are written one after another are the lines that are read, and those of the text.
@@ -30,10 +31,13 @@ pub fn commands_law()
     ensures others { OnlyTheTable }
 {}
 
-/// Each input has one transcript.
+/// Each input has a transcript, and one for each choice of the pages that are kept; what is written tells
+/// the choice. `check` and `render` keep none, and have one.
 pub fn transcripts_law()
     ensures exist { TranscriptsExist }
     ensures one { TranscriptsAreOne }
+    ensures told { TranscriptsTellKept }
+    ensures others { OtherTasksHaveOne }
 {}
 
 /// What is written for a script is what the machine replies to events, and of their run the headline holds.
@@ -41,11 +45,12 @@ pub fn runs_of_scripts_law()
     ensures { TranscriptsAreRuns }
 {}
 
-/// The machine answers each list of commands, and in one way. No work is open between two commands, and once
-/// settled, nothing is pending.
+/// The machine answers each list of commands, and in one way for each choice of the pages that are kept; the
+/// answers tell the choice. No work is open between two commands, and once settled, nothing is pending.
 pub fn plays_law()
     ensures exist { PlaysExist }
     ensures one { PlaysAreOne }
+    ensures told { PlaysTellKept }
     ensures starts { StartsReady }
     ensures ready { CommandsLeaveReady }
     ensures settled { SettlesLeaveNothing }

@@ -1,8 +1,13 @@
 use Rattle.std.proofs.Common.{refl, rules}
 use Rattle.dup_transcript.specs.declared.task.Task.TheVariants.{Check}
 use Rattle.dup_main.proofs.Reached.{no_further}
-use Rattle.dup_main.proofs.WholeRuns.{reads_from, stopped_by_site}
+use Rattle.dup_main.proofs.WholeRuns.{reads_from, stopped_by_site, stopped_in_site}
 use Rattle.dup_main.proofs.check.check_site.Goals as goal
+
+pub returns-in_err-read-clause-stopped : goal.returns-in_err-read-clause-stopped
+returns-in_err-read-clause-stopped g c =
+    stopped_in_site Check _ c.in_err-read.field-0.0 _ _ _ _ c.from_residual.ensures.1
+    (reads_from _ _ _ _ c.new-lines.ensures.ahead c.new-lines.ensures.first c.new-lines.ensures.taken) c.in_err-read.ensures.stopped refl
 
 pub returns-in_err-site-clause-stopped : goal.returns-in_err-site-clause-stopped
 returns-in_err-site-clause-stopped g c =

@@ -2,11 +2,16 @@ use Rattle.std.proofs.Common.{refl, rules, []}
 use Rattle.std.specs.Prelude.{Ok}
 use Rattle.dup_main.specs.Commands.{command_of}
 use Rattle.dup_transcript.specs.declared.task.Task.TheVariants.{Play}
-use Rattle.dup_main.proofs.WholeRuns.{reads_from, stopped_by_site, with_script, without_script, ended_without_script, count_with_script, written_by_script, stopped_by_script, does_play}
+use Rattle.dup_main.proofs.WholeRuns.{reads_from, stopped_by_site, stopped_in_site, with_script, without_script, ended_without_script, count_with_script, written_by_script, stopped_by_script, does_play}
 use Rattle.std.proofs.KnownBytes.{Appends-nil}
 use Rattle.dup_transcript.specs.Turns.{Writes, first_standing}
 use Rattle.dup_transcript.specs.Transcript.{site_ok}
 use Rattle.dup_main.proofs.play.play.Goals as goal
+
+pub returns-in_err-read-clause-stopped : goal.returns-in_err-read-clause-stopped
+returns-in_err-read-clause-stopped g c =
+    stopped_in_site Play _ c.in_err-read.field-0.0 _ _ _ _ c.from_residual.ensures.1
+    (reads_from _ _ _ _ c.new-lines.ensures.ahead c.new-lines.ensures.first c.new-lines.ensures.taken) c.in_err-read.ensures.stopped refl
 
 pub returns-in_err-site-clause-stopped : goal.returns-in_err-site-clause-stopped
 returns-in_err-site-clause-stopped g c =
@@ -35,4 +40,4 @@ returns-then-not-read-clause-written g c =
     ended_without_script Play site_ok (λ site n. Writes command_of site first_standing n) does_play (Ok tt) _ _ _ _ _ c.in_ok-read.read.text.items c.deref.result.now [] c.in_ok-site.site
     (reads_from _ _ _ _ c.new-lines.ensures.ahead c.new-lines.ensures.first c.new-lines.ensures.taken)
     (without_script c.in_ok-read.read.has_script _ _ _ _ (search rules) c.in_ok-read.ensures.text)
-    c.deref.ensures.value c.in_ok-site.ensures.site c.in_ok-put_all.ensures.all (λ n before f. refl) (Appends-nil _)
+    c.deref.ensures.value c.in_ok-site.ensures.site c.in_ok-put_all.ensures.all (λ n before f. ([], refl)) (Appends-nil _)

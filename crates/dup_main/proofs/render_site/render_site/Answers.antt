@@ -5,8 +5,13 @@ use Rattle.dup_transcript.specs.RenderedPages.{rendered_pages}
 use Rattle.dup_transcript.specs.Transcript.{RendersLines}
 use Rattle.dup_transcript.specs.declared.task.Task.TheVariants.{Render}
 use Rattle.dup_main.proofs.PageJobs.{first_fits}
-use Rattle.dup_main.proofs.WholeRuns.{reads_from, stopped_by_site, with_script, without_script, count_with_script, ended_without_script, written_by_script, stopped_by_script, does_render}
+use Rattle.dup_main.proofs.WholeRuns.{reads_from, stopped_by_site, stopped_in_site, with_script, without_script, count_with_script, ended_without_script, written_by_script, stopped_by_script, does_render}
 use Rattle.dup_main.proofs.render_site.render_site.Goals as goal
+
+pub returns-in_err-read-clause-stopped : goal.returns-in_err-read-clause-stopped
+returns-in_err-read-clause-stopped g c =
+    stopped_in_site Render _ c.in_err-read.field-0.0 _ _ _ _ c.from_residual.ensures.1
+    (reads_from _ _ _ _ c.new-lines.ensures.ahead c.new-lines.ensures.first c.new-lines.ensures.taken) c.in_err-read.ensures.stopped refl
 
 pub returns-in_err-site-clause-stopped : goal.returns-in_err-site-clause-stopped
 returns-in_err-site-clause-stopped g c =

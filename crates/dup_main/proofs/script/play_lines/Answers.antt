@@ -18,7 +18,7 @@ lines-init g c = record {
   read_faults = refl;
   write_faults = refl;
   site = refl;
-  usual = c.requires.usual;
+  sound = c.requires.sound;
   played = begun _ _ _ _ _ c.requires.first;
 }
 
@@ -39,7 +39,7 @@ lines-preserved g c = record {
   read_faults = search rules;
   write_faults = search rules;
   site = search rules;
-  usual = search rules;
+  sound = search rules;
   played = more _ _ _ _ _ _ _ _ _ _ _ _ _ c.in-Some.line.bytes.items c.in_ok-text.text.items c.in_ok-command.command c.lines.invariant.played
       (search rules) (search rules)
       (subst (λ (p : Parts). Turns p usual_limits (standing c.lines.session) c.in-Some.line.number c.in_ok-command.command c.in_ok-text.text.items (standing c.act.new.self)) c.lines.invariant.site c.in_ok-text.ensures.acts)

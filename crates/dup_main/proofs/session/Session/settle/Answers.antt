@@ -1,6 +1,9 @@
 use Rattle.std.proofs.Common.{rules}
-use Rattle.dup_main.proofs.Acting.{settle_acts}
+use Rattle.dup_main.proofs.Acting.{settle_acts, settled_sound}
 use Rattle.dup_main.proofs.session.Session.settle.Goals as goal
+
+pub returns-clause-sound : goal.returns-clause-sound
+returns-clause-sound g c = settled_sound c.args.self.now c.settle.new.self c.in_ok-summary.summary c.requires c.settle.ensures.place c.in_ok-summary.ensures.settled
 
 pub returns-clause-acts : goal.returns-clause-acts
 returns-clause-acts g c = settle_acts c.args.self.now c.settle.new.self c.in_ok-summary.summary c.into_bytes.result.items c.in_ok-summary.ensures.settled (search rules)

@@ -1,0 +1,128 @@
+-- What the commands of nodes do to the nodes of a session.
+use Rattle.std.proofs.Common.{◌≡◌, ℕ, Bool, true, false, cond, refl, sym, ap, ◌∙◌, subst, List, [], length, arith}
+use Rattle.std.specs.Prelude.{Option, Some, None, is_some}
+use Rattle.std.specs.Map.{lookup}
+use Rattle.std.specs.declared.alloc.Global.{Global}
+use Rattle.std.specs.declared.sync.Arc.{Arc}
+use Rattle.std.specs.Ordering.{is_eq, nat_cmp}
+use Rattle.std.proofs.lemmas.Option.{same_Some}
+use Rattle.dup_names.specs.Words.{Word, Path}
+use Rattle.dup_template.specs.declared.site.Parts.{Parts}
+use Rattle.dup_model.specs.Answers.{answer}
+use Rattle.dup_model.specs.Caches.{Cache, catch_up}
+use Rattle.dup_model.specs.Editions.{Bundle, Page}
+use Rattle.dup_model.specs.Journal.{usual_limits}
+use Rattle.dup_model.specs.Serving.{HoldsPagesOf}
+use Rattle.dup_model.specs.declared.mode.Mode.{Mode}
+use Rattle.dup_machine.specs.Presses.{Press}
+use Rattle.dup_machine.specs.World.{answered}
+use Rattle.dup_machine.specs.World.Told.{Delivered, Evicted, NodeMade, NodeTaken, NoNode}
+use Rattle.dup_cache.specs.Entries.{evicted, has_path}
+use Rattle.dup_cache.specs.declared.how.How.{How}
+use Rattle.dup_cache.specs.declared.how.How.TheVariants as hows
+use Rattle.dup_node.specs.Replies.{IsAnswered, is_kept, reply_told}
+use Rattle.dup_node.specs.declared.reply.Reply.{Reply}
+use Rattle.dup_node.specs.declared.reply.Reply.TheVariants as replies
+use Rattle.dup_transcript.specs.Commands.{Command}
+use Rattle.dup_transcript.specs.MachinePlays.{tells_kept}
+use Rattle.dup_transcript.specs.Texts.{told_text}
+use Rattle.dup_transcript.specs.Turns.{Standing, Turns}
+use Rattle.dup_transcript.specs.declared.command.Command.TheVariants as command
+use Rattle.dup_transcript.proofs.MachineTurns.{deliver_no_node, evict_no_node, get_no_node, turns_deliver, turns_evict, turns_get, turns_made, turns_taken}
+use Rattle.dup_main.specs.Serving.{AllHold, Delivers, Nodes, Puts, Serves, TurnsNodes, cache_at, standing_at}
+
+-- a cache that holds pages of the log may come
+pub holds_with : (log : List Bundle) (old new : Nodes) (n : ℕ) (cache : Cache) → AllHold old log → Puts old n cache new → HoldsPagesOf log cache → AllHold new log
+holds_with log old new n cache all puts holds q other is = by_tie (is_eq (nat_cmp n q)) (sym (puts.0 q) ∙ is)
+  where
+    by_tie : (b : Bool) → cond b (Some cache) (cache_at old q) ≡ Some other → HoldsPagesOf log other
+    by_tie true same = subst (HoldsPagesOf log) (same_Some cache other same) holds
+    by_tie false there = all q other there
+
+pub same_nodes : (log : List Bundle) (old new : Nodes) → AllHold old log → new.entries ≡ old.entries → AllHold new log
+same_nodes log old new all same q other is = all q other (ap (lookup (λ k. is_eq (nat_cmp q k))) (sym same) ∙ is)
+
+-- a node that is there is taken, and else it is made
+pub taken_turns : (log : List Bundle) (nodes : Nodes) (number capacity : ℕ) (mode : Mode) (text : Word) → is_some (cache_at nodes number) ≡ true → text ≡ told_text (NodeTaken number)
+    → TurnsNodes log nodes (command.Node number capacity mode) text nodes
+taken_turns log nodes number capacity mode text there says site press at = by_cache (cache_at nodes number) refl there
+  where
+    by_cache : (o : Option Cache) → cache_at nodes number ≡ o → is_some o ≡ true → Turns site usual_limits (standing_at press nodes) 0 (command.Node number capacity mode) text (standing_at press nodes)
+    by_cache None is some = absurd (cc)
+    by_cache (Some cache) is some =
+        subst (λ (t : Word). Turns site usual_limits (standing_at press nodes) 0 (command.Node number capacity mode) t (standing_at press nodes)) (sym says)
+        (turns_taken site usual_limits (standing_at press nodes) 0 number capacity mode cache is)
+
+pub made_turns : (log : List Bundle) (old new : Nodes) (number capacity : ℕ) (mode : Mode) (text : Word) → is_some (cache_at old number) ≡ false
+    → Puts old number (record { capacity = capacity; mode = mode; number = 0; entries = [] }) new → text ≡ told_text (NodeMade number)
+    → TurnsNodes log old (command.Node number capacity mode) text new
+made_turns log old new number capacity mode text isnt puts says site press at =
+    subst (λ (t : Word). Turns site usual_limits (standing_at press old) 0 (command.Node number capacity mode) t (standing_at press new)) (sym says)
+    (turns_made site usual_limits (standing_at press old) (standing_at press new) 0 number capacity mode (none_at (cache_at old number) isnt) refl puts.0)
+  where
+    none_at : (o : Option Cache) → is_some o ≡ false → o ≡ None
+    none_at None is = refl
+    none_at (Some c) is = absurd (cc)
+
+-- an empty cache holds pages of any log
+pub empty_holds : (log : List Bundle) (capacity : ℕ) (mode : Mode) → HoldsPagesOf log (record { capacity = capacity; mode = mode; number = 0; entries = [] })
+empty_holds log capacity mode = record { within = omega arith; pages = tt }
+
+-- the same nodes stand alike
+stand_alike : (press : Press) (old new : Nodes) → new.entries ≡ old.entries → standing_at press old ≡ standing_at press new
+stand_alike press old new same = λ i. record { press = press; nodes = λ n. lookup (λ k. is_eq (nat_cmp n k)) (sym same i) }
+
+-- a command of a node that isn't there
+module _ (log : List Bundle) (old new : Nodes) (number : ℕ) (text : Word) (none : cache_at old number ≡ None) (same : new.entries ≡ old.entries) (says : text ≡ told_text (NoNode number)) where
+  told_none : (c : Command) (site : Parts) (press : Press) → Turns site usual_limits (standing_at press old) 0 c (told_text (NoNode number)) (standing_at press old)
+      → Turns site usual_limits (standing_at press old) 0 c text (standing_at press new)
+  told_none c site press turns =
+      subst (λ (t : Word). Turns site usual_limits (standing_at press old) 0 c t (standing_at press new)) (sym says)
+      (subst (λ (s : Standing). Turns site usual_limits (standing_at press old) 0 c (told_text (NoNode number)) s) (stand_alike press old new same) turns)
+
+  pub none_gets : (pass : ℕ) (path : Path) → TurnsNodes log old (command.Get number pass path) text new
+  none_gets pass path site press at = told_none (command.Get number pass path) site press (get_no_node site usual_limits (standing_at press old) 0 number pass path none)
+
+  pub none_delivers : TurnsNodes log old (command.Deliver number) text new
+  none_delivers site press at = told_none (command.Deliver number) site press (deliver_no_node site usual_limits (standing_at press old) 0 number none)
+
+  pub none_evicts : (path : Path) → TurnsNodes log old (command.Evict number path) text new
+  none_evicts path site press at = told_none (command.Evict number path) site press (evict_no_node site usual_limits (standing_at press old) 0 number path none)
+
+-- and of one that is
+module _ (log : List Bundle) (old new : Nodes) (number : ℕ) (text : Word) (cache after : Cache) (known : cache_at old number ≡ Some cache) (puts : Puts old number after new) where
+  pub one_gets : (pass : ℕ) (path : Path) → Serves log cache pass path text after → TurnsNodes log old (command.Get number pass path) text new
+  one_gets pass path serves site press at =
+      let kept : Bool = serves.kept in
+      subst (λ (t : Word). Turns site usual_limits (standing_at press old) 0 (command.Get number pass path) t (standing_at press new)) (sym serves.says)
+      (turns_get site usual_limits (standing_at press old) (standing_at press new) 0 number pass path cache after kept (answer cache log pass path kept).reply known serves.shows
+      (ap (λ (l : List Bundle). (answer cache l pass path kept).reply) (sym at)) (serves.cache ∙ ap (λ (l : List Bundle). (answer cache l pass path kept).cache) (sym at)) refl puts.0)
+
+  pub one_delivers : Delivers log number cache text after → TurnsNodes log old (command.Deliver number) text new
+  one_delivers delivers site press at =
+      subst (λ (t : Word). Turns site usual_limits (standing_at press old) 0 (command.Deliver number) t (standing_at press new)) (sym delivers.says)
+      (turns_deliver site usual_limits (standing_at press old) (standing_at press new) 0 number cache after known (delivers.caught ∙ ap (λ (l : List Bundle). catch_up l cache) (sym at)) refl puts.0)
+
+  pub one_evicts : (path : Path) (found : Bool) → found ≡ has_path cache.entries path → after ≡ evicted path cache → text ≡ told_text (Evicted found) → TurnsNodes log old (command.Evict number path) text new
+  one_evicts path found finds leaves says site press at =
+      subst (λ (t : Word). Turns site usual_limits (standing_at press old) 0 (command.Evict number path) t (standing_at press new)) (sym says)
+      (turns_evict site usual_limits (standing_at press old) (standing_at press new) 0 number path cache after found known finds leaves refl puts.0)
+
+-- what a node answers is what is served
+pub serves_by : (log : List Bundle) (old new : Cache) (pass : ℕ) (path : Path) (reply : Reply) (text : Word) → IsAnswered old log pass path reply new → text ≡ told_text (answered (reply_told reply)) → Serves log old pass path text new
+serves_by log old new pass path reply text given says = record {
+  kept = is_kept reply;
+  shows = shown reply ∙ ap (λ r. tells_kept (answered r)) given.0;
+  says = says ∙ ap (λ r. told_text (answered r)) given.0;
+  cache = given.1;
+}
+  where
+    found_shown : (edition : ℕ) (page : Arc Page Global) (how : How) → is_kept (replies.Found edition page how) ≡ tells_kept (answered (reply_told (replies.Found edition page how)))
+    found_shown edition page hows.Hit = refl
+    found_shown edition page hows.Miss = refl
+    found_shown edition page hows.MissUnkept = refl
+
+    shown : (r : Reply) → is_kept r ≡ tells_kept (answered (reply_told r))
+    shown (replies.Found edition page how) = found_shown edition page how
+    shown (replies.Absent edition) = refl
+    shown (replies.Ahead pass edition) = refl
