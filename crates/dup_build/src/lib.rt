@@ -1,4 +1,7 @@
 //! Works: the looks of a version from those of the last.
+//!
+//! Each call is one step of the machine's build; each skeleton and look is the object's own at the
+//! work's content.
 #![tactic(auto)]
 
 mod answers;

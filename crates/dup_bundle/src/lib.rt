@@ -2,6 +2,8 @@
 //!
 //! A path is changed where the edition and the target have other looks there. `Changed` keeps the set
 //! of these paths from one publication to the next, so that no call compares the looks of all pages.
+//!
+//! A bundle is the finest closed set whose least path is least.
 #![tactic(auto)]
 
 mod bundling;

@@ -1,4 +1,6 @@
 //! Lists that stand in chunks, which are shared with the lists that they were made from.
+//!
+//! An edit copies one chunk of at most 64 items; a search counts the items that it looks at.
 #![tactic(auto)]
 
 mod chunked;

@@ -1,4 +1,6 @@
 //! Feed messages: `read_commit` reads the commit that a JSON text says.
+//!
+//! A text that says no commit has its first refusal.
 #![tactic(auto)]
 
 mod change;

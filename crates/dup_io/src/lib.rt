@@ -1,4 +1,6 @@
 //! Byte sources and sinks that count their faults, in memory and of the runtime, and the lines of a source.
+//!
+//! A fault comes only where its count rose; what is written is all, or a prefix before a fault.
 #![tactic(auto)]
 
 mod ends;

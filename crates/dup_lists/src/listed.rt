@@ -34,6 +34,13 @@ impl<T> Listed<T> {
     {
         self.items.as_slice()
     }
+
+    /// The `Vec` of its elements. It takes no memory.
+    pub fn into_vec(self) -> Vec<T>
+        ensures { result.items ≡ self }
+    {
+        self.items
+    }
 }
 
 impl<T: PartialEq> PartialEq for Listed<T> {

@@ -1,4 +1,6 @@
 //! The top call of the command line.
+//!
+//! What is written is the transcript of the input; the headline holds of the run of each script.
 #![tactic(auto)]
 
 mod all_pages;

@@ -1,5 +1,7 @@
 //! Names, keys, paths and texts; the objects that are shown and the items that are read; the words
 //! of a line, want of memory, and the limits of all.
+//!
+//! Each is read exactly where the bytes are in its grammar; orders are byte orders.
 #![tactic(auto)]
 
 mod count;

@@ -38,7 +38,7 @@ fn is_path(bytes: &[u8]) -> bool
 
 /// At most 200 bytes: `/` alone, or segments, each `/` and 1 or more bytes of a-z, 0-9, _, - and `.`.
 /// Paths have the order of their bytes.
-#[derive(Clone, Copy, Debug, PartialEq, Eq, PartialOrd, Ord)]
+#[derive(Clone, Copy, Debug, PartialEq, Eq, PartialOrd, Ord, Hash)]
 pub struct Path {
     text: Short<MAX_PATH_BYTES>,
 }

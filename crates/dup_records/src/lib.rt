@@ -1,4 +1,7 @@
 //! Commits and contents: what a commit may say, what it does to the rows of a site, and what is read of them.
+//!
+//! `apply` gives the content after a commit, or the refusal of the first change that fails; a content
+//! never changes in place.
 #![tactic(auto)]
 
 mod agreeing;

@@ -1,5 +1,7 @@
 //! The text of a site: `read_site` reads and checks it, `site_text` writes it. `read_body` and `body_lines` read
 //! and write the body of one template.
+//!
+//! A text that is no good site's has its first cause; the canonical text reads back as the same site.
 #![tactic(auto)]
 
 mod body;
