@@ -19,3 +19,5 @@ pub mod Leaving
 pub mod Starting
 pub mod Paging
 pub mod Counting
+pub mod OwnPaths
+pub mod Renewing

@@ -79,7 +79,7 @@ target_current c looked once =
     (All-map (λ (p : Path × Look). IsCurrent c looked once p.1) (λ (p : Path × Obj). (p.0, look c p.1)) (pages c) (λ k d below inside out. refl))
 
 -- what holds of each look holds of that at a path
-look_found : (P : Look → Type 0) (p : Path) (es : List (Path × Look)) (l : Look) → All P (looks_in es) → fin.find text_cmp p es ≡ Some l → P l
+pub look_found : (P : Look → Type 0) (p : Path) (es : List (Path × Look)) (l : Look) → All P (looks_in es) → fin.find text_cmp p es ≡ Some l → P l
 look_found P p [] l all is = absurd (none-some l is)
 look_found P p (e ∷ es) l all is = by_path (eq_by_cmp text_cmp p e.0) (λ later. look_found P p es l (All-tail P e.1 (looks_in es) all) later) is
   where

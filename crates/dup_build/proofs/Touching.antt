@@ -23,11 +23,11 @@ use Rattle.dup_build.proofs.Ordered.{Rise, paths_in, push_on, rise_between, rise
 abbrev at : Path → List (Path × Look) → Option Look
 at p pages = fin.find text_cmp p pages
 
-or_true : (a : Bool) → (a || true) ≡ true
+pub or_true : (a : Bool) → (a || true) ≡ true
 or_true true = refl
 or_true false = refl
 
-or_none : (a : Bool) → (a || false) ≡ a
+pub or_none : (a : Bool) → (a || false) ≡ a
 or_none true = refl
 or_none false = refl
 
@@ -41,7 +41,7 @@ lt_apart Less h = refl
 lt_apart Equal h = absurd (true≢false (sym h))
 lt_apart Greater h = absurd (true≢false (sym h))
 
-same_path : (p q : Path) → eq_by_cmp text_cmp p q ≡ true → p ≡ q
+pub same_path : (p q : Path) → eq_by_cmp text_cmp p q ≡ true → p ≡ q
 same_path p q h = fin.slice_cmp-IsAntisymmetric fin.nat_cmp-IsAntisymmetric p q (tied (text_cmp p q) h)
 
 -- no page stands at a path that is below all
@@ -55,7 +55,7 @@ none_at : (k p : Path) (es : List (Path × Look)) → below_all text_cmp k es �
 none_at k p es below h = ap (λ q. at q es) (same_path p k h) ∙ none_below k es below
 
 -- one more path
-has_more : (paths : List Path) (q p : Path) → has (paths ++ q ∷ []) p ≡ (has paths p || eq_by_cmp text_cmp p q)
+pub has_more : (paths : List Path) (q p : Path) → has (paths ++ q ∷ []) p ≡ (has paths p || eq_by_cmp text_cmp p q)
 has_more paths q p = list_any-append (eq_by_cmp text_cmp p) paths (q ∷ []) ∙ ap (λ b. has paths p || b) (or_none (eq_by_cmp text_cmp p q))
 
 module _ (once : List Obj) where

@@ -10,6 +10,7 @@ use Rattle.dup_machine.specs.World.{Work}
 use Rattle.dup_build.specs.declared.build.Build.TheInside.{Inside}
 use Rattle.dup_build.specs.Built.{Built, done_in, looked_in}
 use Rattle.dup_build.specs.Paths.{IsCurrent, looks_in}
+use Rattle.dup_build.specs.Spare.{AreTurned}
 use Rattle.dup_build.specs.Stocked.{level_in}
 use Rattle.dup_build.specs.Targets.{pages_in}
 use Rattle.dup_walk.specs.OverReads.{HasReads}
@@ -42,11 +43,13 @@ abbrev pub once_in : Inside → List Obj
 once_in a = if a.is_open then a.once else []
 
 -- between two works the stock has all that is live at the target, and the graph has what is done; what the
--- open work didn't join is shown as the target shows it, whose paths rise; a level that is planned is the next
+-- open work didn't join is shown as the target shows it, whose paths rise; a level that is planned is the next;
+-- and what is spare is so for the target
 pub record IsBuild (a : Inside) : Type 0 where
   pub is_done : a.stock.done ≡ done_in (works_in a)
   pub is_looked : a.stock.looked ≡ looked_in (works_in a)
   pub reads : HasReads a.stock.content a.stock.done a.graph
   pub rising : IsTrue (is_sorted text_cmp (pages_in a.target))
   pub shown : All (IsCurrent a.stock.content a.stock.looked (once_in a)) (looks_in (pages_in a.target))
+  pub turned : AreTurned a.same_pages a.stock.content (pages_in a.target) a.spare
   pub planned : IfSome a.next (λ objs. objs.items ≡ level_in a.stock)

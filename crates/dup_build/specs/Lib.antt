@@ -6,6 +6,7 @@ pub mod Targets
 pub mod Paths
 pub mod Built
 pub mod Answers
+pub mod Spare
 pub mod Build
 pub mod Closing
 pub mod Loose

@@ -5,7 +5,7 @@ ghost use Rattle.dup_names.specs.declared.object.Obj.{Obj};
 ghost use Rattle.dup_model.specs.ChangedItems.{KeysAreKeys};
 ghost use Rattle.dup_model.specs.Content.{start};
 ghost use Rattle.dup_model.specs.Looks.{look};
-ghost use Rattle.dup_model.specs.Pages.{pages};
+ghost use Rattle.dup_model.specs.Pages.{page_looks, pages};
 ghost use Rattle.dup_names.specs.Objects.{is_in};
 ghost use Rattle.dup_model.specs.Touched.{touched, affected};
 ghost use Rattle.dup_build.specs.Answers.{begun_told, finish_told, joined_told, ForTouched, IsUnclosed, SaysPut};
@@ -18,19 +18,20 @@ ghost use Rattle.std.specs.FinMap.Entries.{is_sorted};
 ghost use Rattle.std.specs.List.Sorted.{IsStrictlySortedBy};
 ghost use Rattle.dup_names.specs.Order.{text_cmp};
 ghost use Rattle.dup_build.specs.Paths.{AreTouched, SameElsewhere};
-ghost use Rattle.dup_build.specs.Targets.{looks_of};
+ghost use Rattle.dup_build.specs.Targets.{looks_by_path, looks_of};
 ghost use Rattle.dup_build.specs.Built as built;
 ghost use Rattle.dup_build.specs.Closing.{CanClose, IsClosing};
 
 use crate::answers::{Begun, Closing, Finish, Joined, Put};
-use crate::hits::{hits_of, rows_change};
+use crate::hits::{hits_of, pages_change};
 use crate::job::Job;
 use crate::keyed::commits_keyed;
 use crate::levels::{level_looks, level_of, plan};
 use crate::node::Node;
 use crate::reads::{drop_all, put_node};
+use crate::spare::{Spare, spare_of, turn};
 use crate::stock::{Stock, expansion_known};
-use crate::turning::{pages_of, turn_pages};
+use crate::turning::pages_of;
 use crate::values::copy_value;
 use dup_graph::Graph;
 use dup_lists::Listed;
@@ -51,6 +52,8 @@ pub struct Build {
     stock: Stock,
     graph: Graph,
     target: Option<Target>,
+    spare: Option<Spare>,
+    same_pages: bool,
     is_open: bool,
     last_handed: Option<Obj>,
     once: ObjSet,
@@ -87,6 +90,8 @@ impl Build {
             stock,
             graph: Graph::new(alloc)?,
             target: None,
+            spare: None,
+            same_pages: false,
             is_open: false,
             last_handed: None,
             once: ObjSet::new(alloc),
@@ -124,6 +129,7 @@ impl Build {
         self.stock
             .move_to(alloc, content, dropped, stale, same_pages)?;
         drop_all(&mut self.graph, &gone);
+        self.same_pages &= same_pages;
         self.version = version;
         self.is_open = true;
         self.last_handed = None;
@@ -163,6 +169,7 @@ impl Build {
         self.stock
             .move_to(alloc, content, dropped, stale, same_pages)?;
         drop_all(&mut self.graph, &gone);
+        self.same_pages &= same_pages;
         self.version = version;
         self.last_handed = None;
         self.next = None;
@@ -215,8 +222,8 @@ impl Build {
     /// drops the skeletons that read a changed item, and the looks in which one of these is shown.
     ///
     /// The cost is that of the rows that the commits name, of a walk along the graph from the changed
-    /// items, of what these reach and of what that embeds; where rows come or go, that of listing the pages
-    /// too. Nothing is done for another object.
+    /// items, of what these reach and of what that embeds; where rows that have pages come or go, that of
+    /// listing the pages too. Nothing is done for another object.
     pub fn begin(
         &mut self,
         alloc: Global,
@@ -240,7 +247,7 @@ impl Build {
             content,
             &hits.dropped,
             &hits.stale,
-            !rows_change(&changed),
+            !pages_change(content, &changed),
         )
     }
 
@@ -470,14 +477,17 @@ impl Build {
     }
 
     // What closing the open work comes to, where all that is found has a look.
-    fn closing_now(&self, alloc: Global) -> Result<Closing, NoMemory>
-        requires busy { IsSome self.now.works.work }
-        requires calm { built.waiting_by self.now.works.content self.now.works.work ≡ [] }
-        requires joined { built.unjoined_by self.now.works.content self.now.works.work ≡ [] }
-        ensures { IfOk result (IsClosing self.now) }
+    fn closing_now(&mut self, alloc: Global) -> Result<Closing, NoMemory>
+        requires busy { IsSome self.old.works.work }
+        requires calm { built.waiting_by self.old.works.content self.old.works.work ≡ [] }
+        requires joined { built.unjoined_by self.old.works.content self.old.works.work ≡ [] }
+        ensures closing { IfOk result (IsClosing self.old) }
+        ensures stays { self.new ≡ self.old }
     {
         self.stock.content();
-        let turned = turn_pages(alloc, &self.stock, pages_of(&self.target), &self.once)?;
+        let spare = self.spare.take();
+        let last = pages_of(&self.target);
+        let turned = turn(alloc, &self.stock, last, spare, self.same_pages, &self.once)?;
         Ok(Closing {
             target: Target {
                 version: self.version,
@@ -488,18 +498,20 @@ impl Build {
     }
 
     /// What closing the open work comes to, where all that is found has a look; else what `finish` answers.
-    /// Nothing is changed, and a work that can't be closed takes no memory.
+    /// The build stays as it is, and a work that can't be closed takes no memory.
     ///
-    /// The cost is that of one walk over the pages and the last target's, side by side, with a search in what
-    /// the work joined for each, and of a search for each page that isn't as it was; no looks are compared or
-    /// copied.
-    pub fn closing(&self, alloc: Global) -> Result<Result<Closing, Finish>, NoMemory>
-        ensures closing { IfOk result (λ told. IfOk told (IsClosing self.now)) }
+    /// The cost is that of a search for each object that this work joined or the one before. Where other pages
+    /// are listed than at the last target or at the one before, or an answer of this call led to no target, it
+    /// is that of one walk over the pages and the last target's, side by side, with a search in what the work
+    /// joined for each, and of a search for each page that isn't as it was. No looks are compared or copied.
+    pub fn closing(&mut self, alloc: Global) -> Result<Result<Closing, Finish>, NoMemory>
+        ensures closing { IfOk result (λ told. IfOk told (IsClosing self.old)) }
         ensures told { IfOk result (λ told. IfErr told (λ finish. finish_told finish
-            ≡ (built.finished self.now.works).0)) }
-        ensures stays { IfOk result (λ told. IfErr told (λ finish. IsUnclosed finish
-            × (built.closed (built.finished self.now.works) self.now ≡ self.now))) }
-        ensures memory { OnErr result (CanClose self.now) }
+            ≡ (built.finished self.old.works).0)) }
+        ensures unclosed { IfOk result (λ told. IfErr told (λ finish. IsUnclosed finish
+            × (built.closed (built.finished self.old.works) self.old ≡ self.old))) }
+        ensures memory { OnErr result (CanClose self.old) }
+        ensures stays { self.new ≡ self.old }
     {
         if !self.is_open {
             return Ok(Err(Finish::Idle));
@@ -530,11 +542,16 @@ impl Build {
     {
         self.once.len();
         let once = self.once.list(alloc)?;
+        let mut behind = Vec::new(alloc);
+        behind.extend_from_slice(closing.touched.items())?;
         let gone = self.stock.forget(alloc, &self.graph)?;
         drop_all(&mut self.graph, &gone);
         let kept = self.stock.kept(&once) as u64;
         let version = self.version;
+        let last = self.target.take();
         self.target = Some(closing.target);
+        self.spare = spare_of(last, behind, self.same_pages);
+        self.same_pages = true;
         self.next = None;
         self.is_open = false;
         Ok(Finish::Report {
@@ -549,10 +566,7 @@ impl Build {
     /// Closes the open work, where all that is found has a look: its looks are the target. A report
     /// tells the touched paths in path order, away from which the target is as it was.
     ///
-    /// The cost is that of one walk over the pages and the last target's, side by side, with a search in what
-    /// the work joined for each, and of a search for each page that isn't as it was, for what the work joined
-    /// and for what may have come loose since the last target; no looks are compared or copied. A work that
-    /// can't be closed takes no memory.
+    /// The cost is that of `closing` and `close`. A work that can't be closed takes no memory.
     pub fn finish(&mut self, alloc: Global) -> Result<Finish, NoMemory>
         ensures told { IfOk result (λ told. finish_told told ≡ (built.finished self.old.works).0) }
         ensures touched { IfOk result (λ told. ForTouched told

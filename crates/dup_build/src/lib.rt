@@ -16,6 +16,7 @@ mod node;
 mod paged;
 mod reach;
 mod reads;
+mod spare;
 mod stock;
 mod survey;
 mod turning;

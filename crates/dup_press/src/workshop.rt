@@ -186,13 +186,14 @@ impl Workshop {
         Ok(joined)
     }
 
-    /// What closing the open work comes to, where all that is found has a look; else what `finish` answers,
-    /// which changes nothing. The cost is that of `Build::closing`.
-    pub fn closing(&self, alloc: Global) -> Result<Result<Closing, Finish>, NoMemory>
-        ensures closing { IfOk result (λ told. IfOk told (IsClosing (built_of self.now))) }
-        ensures stays { IfOk result (λ told. IfErr told (λ finish. IsUnclosed finish × IsStep
-            (finish_step self.now.journal.site self.now.work self.now.target) self.now
-            (machine.Told.Finished (finish_told finish)) self.now)) }
+    /// What closing the open work comes to, where all that is found has a look; else what `finish` answers.
+    /// The works stay as they are. The cost is that of `Build::closing`.
+    pub fn closing(&mut self, alloc: Global) -> Result<Result<Closing, Finish>, NoMemory>
+        ensures closing { IfOk result (λ told. IfOk told (IsClosing (built_of self.old))) }
+        ensures unclosed { IfOk result (λ told. IfErr told (λ finish. IsUnclosed finish × IsStep
+            (finish_step self.old.journal.site self.old.work self.old.target) self.old
+            (machine.Told.Finished (finish_told finish)) self.old)) }
+        ensures stays { self.new ≡ self.old }
     {
         let closing = self.build.closing(alloc)?;
         Ok(closing)

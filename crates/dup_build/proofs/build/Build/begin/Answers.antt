@@ -1,6 +1,6 @@
 use Rattle.std.proofs.Common.{◌≡◌, true, not, ap, subst, ◌∙◌, map, sym}
 use Rattle.std.specs.List.{list_any}
-use Rattle.dup_build.specs.Paged.{is_list}
+use Rattle.dup_build.specs.Paged.{lists_pages}
 use Rattle.dup_names.specs.Objects.{is_in}
 use Rattle.dup_model.specs.Content.{Content}
 use Rattle.dup_model.specs.Touched.{AreChanged, touched, affected}
@@ -11,7 +11,7 @@ use Rattle.dup_model.proofs.Keyed.{fold_keyed}
 use Rattle.dup_records.proofs.Moved.{frame_fold}
 use Rattle.dup_build.specs.Built.{Built, done_in, looked_in}
 use Rattle.dup_build.proofs.Graphs.{hit_dropped, hit_stale}
-use Rattle.dup_build.proofs.Paging.{none_is_list, pages_stay}
+use Rattle.dup_build.proofs.Paging.{none_lists, pages_stay}
 use Rattle.dup_build.proofs.build.Build.begin.Goals as goal
 
 pub begin_over-requires-clause-dropped : goal.begin_over-requires-clause-dropped
@@ -49,6 +49,8 @@ begin_over-requires-clause-pages c = λ same.
     let changed : AreChanged c.args.self.now.works.content c.args.content.now c.in_ok-changed.changed.items =
     subst (λ (b : Built). AreChanged b.works.content c.args.content.now c.in_ok-changed.changed.items) c.self.view_is
     (subst (λ (a : Content). AreChanged a c.args.content.now c.in_ok-changed.changed.items) c.content.ensures.value c.in_ok-changed.ensures) in
-    pages_stay c.args.self.now.works.content c.args.content.now
-    (sym (ap (λ (x : Content). x.frame) c.requires.commits ∙ frame_fold c.args.self.now.works.content (map (λ m. m.value) c.args.commits.now)))
-    c.in_ok-changed.changed.items changed (none_is_list c.in_ok-changed.changed.items (ap (λ l. not (list_any is_list l)) (sym c.deref-2.ensures.value) ∙ ap not (sym c.rows_change.ensures) ∙ same))
+    let frames : c.args.self.now.works.content.frame ≡ c.args.content.now.frame =
+    sym (ap (λ (x : Content). x.frame) c.requires.commits ∙ frame_fold c.args.self.now.works.content (map (λ m. m.value) c.args.commits.now)) in
+    pages_stay c.args.self.now.works.content c.args.content.now frames c.in_ok-changed.changed.items changed
+    (none_lists c.args.self.now.works.content.frame c.in_ok-changed.changed.items
+    ((λ i. not (list_any (lists_pages (frames i)) (sym c.deref-2.ensures.value i))) ∙ ap not (sym c.pages_change.ensures) ∙ same))

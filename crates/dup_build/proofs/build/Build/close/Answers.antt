@@ -1,4 +1,6 @@
-use Rattle.std.proofs.Common.{◌≡◌, Bool, true, cond, [], Some, None, length, sym, ap, subst, ◌∙◌}
+use Rattle.std.specs.Prelude.{IfSome}
+use Rattle.dup_names.specs.Words.{Path}
+use Rattle.std.proofs.Common.{◌≡◌, ◌++◌, List, Bool, true, cond, [], Some, None, length, sym, ap, subst, ◌∙◌}
 use Rattle.std.specs.List.{All}
 use Rattle.dup_model.specs.Pages.{live, page_looks}
 use Rattle.dup_names.specs.Order.{text_cmp}
@@ -10,8 +12,10 @@ use Rattle.dup_machine.specs.Builds.{Build, finished_in}
 use Rattle.dup_model.specs.Found.{waiting}
 use Rattle.dup_machine.specs.Works.{unjoined}
 use Rattle.dup_build.specs.Build.{IsBuild, work_in, works_in}
-use Rattle.dup_build.specs.Paths.{IsCurrent, looks_in}
-use Rattle.dup_build.specs.Targets.{looks_of}
+use Rattle.dup_build.specs.Paths.{IsCurrent, SameElsewhere, looks_in}
+use Rattle.dup_build.specs.Spare.{AreTurned}
+use Rattle.dup_build.specs.Targets.{looks_by_path, looks_of, pages_in}
+use Rattle.dup_build.proofs.Renewing.{turned_closed}
 use Rattle.dup_build.proofs.Showing.{target_current}
 use Rattle.dup_build.proofs.Rising.{page_looks_rise}
 use Rattle.dup_build.specs.Built.{Built, closed, waiting_by, unjoined_by, finished}
@@ -90,6 +94,12 @@ invariant_of-self-2 c =
       is_done = ap (λ (s : Stocked). s.done) ok ∙ sym (ap (λ (s : Stocked). live s.content) ok);
       is_looked = ap (λ (s : Stocked). s.looked) ok ∙ sym (ap (λ (s : Stocked). live s.content) ok);
       planned = tt;
+      turned = subst (λ (s : Stocked). AreTurned true s.content (looks_of c.args.closing.target) c.spare_of.result) (sym ok)
+          (turned_closed c.self.inside.stock.content c.self.inside.same_pages (pages_in c.self.inside.target) (looks_of c.args.closing.target) c.args.closing.touched c.extend_from_slice.new.self.items c.self.inside.spare c.spare_of.result
+          c.self.invariant.turned c.self.invariant.rising looks
+          (subst (λ pages. SameElsewhere c.args.closing.touched pages (looks_of c.args.closing.target)) (sym (ap (λ (b : Built). b.pages) c.self.view_is)) c.requires.elsewhere)
+          (c.in_ok-extend_from_slice.ensures.items ∙ ap (λ (l : List Path). l ++ c.items.result.now) c.new-behind.ensures.items ∙ c.items.ensures) c.spare_of.ensures.same
+          (subst (λ last. IfSome c.spare_of.result (λ s. looks_by_path s.pages.items ≡ pages_in last)) c.take-last.ensures.value c.spare_of.ensures.pages) c.spare_of.ensures.behind);
       rising = ap (is_sorted text_cmp) looks ∙ page_looks_rise c.self.inside.stock.content;
       shown = subst (λ (s : Stocked). All (IsCurrent s.content s.looked []) (looks_in (looks_of c.args.closing.target))) (sym ok)
           (subst (λ pages. All (IsCurrent c.self.inside.stock.content (live c.self.inside.stock.content) []) (looks_in pages)) (sym looks)

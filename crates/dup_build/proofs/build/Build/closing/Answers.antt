@@ -22,8 +22,8 @@ returns-then-waiting-gt0-clause-told c =
     ∙ some_wait c.args.self.now.works (work_in c.self.inside) (waiting c.args.self.now.works.content c.self.inside.stock.done) (unjoined c.args.self.now.works.content (work_in c.self.inside)) some in
     ap Ended.Waiting count ∙ sym (ap (λ (x : Ended × Build). x.0) step)
 
-pub returns-then-waiting-gt0-clause-stays : goal.returns-then-waiting-gt0-clause-stays
-returns-then-waiting-gt0-clause-stays c =
+pub returns-then-waiting-gt0-clause-unclosed : goal.returns-then-waiting-gt0-clause-unclosed
+returns-then-waiting-gt0-clause-unclosed c =
     let work_is : c.args.self.now.works.work ≡ Some (work_in c.self.inside) = ap (λ (b : Built). b.works.work) (sym c.self.view_is) ∙ ap (λ (o : Bool). cond o (Some (work_in c.self.inside)) None) c.if-not-self.false in
     let count : c.waiting-waiting.result ≡ length (waiting c.args.self.now.works.content c.self.inside.stock.done) =
     c.waiting-waiting.ensures ∙ ap (λ (b : Built). length (waiting b.works.content c.self.inside.stock.done)) c.self.view_is in
@@ -47,8 +47,8 @@ returns-then-unjoined-gt0-clause-told c =
     ∙ some_unjoined c.args.self.now.works (work_in c.self.inside) (waiting c.args.self.now.works.content c.self.inside.stock.done) (unjoined c.args.self.now.works.content (work_in c.self.inside)) none some in
     ap Ended.Unjoined left ∙ sym (ap (λ (x : Ended × Build). x.0) step)
 
-pub returns-then-unjoined-gt0-clause-stays : goal.returns-then-unjoined-gt0-clause-stays
-returns-then-unjoined-gt0-clause-stays c =
+pub returns-then-unjoined-gt0-clause-unclosed : goal.returns-then-unjoined-gt0-clause-unclosed
+returns-then-unjoined-gt0-clause-unclosed c =
     let work_is : c.args.self.now.works.work ≡ Some (work_in c.self.inside) = ap (λ (b : Built). b.works.work) (sym c.self.view_is) ∙ ap (λ (o : Bool). cond o (Some (work_in c.self.inside)) None) c.if-not-self.false in
     let count : c.waiting-waiting.result ≡ length (waiting c.args.self.now.works.content c.self.inside.stock.done) =
     c.waiting-waiting.ensures ∙ ap (λ (b : Built). length (waiting b.works.content c.self.inside.stock.done)) c.self.view_is in

@@ -17,28 +17,28 @@ use Rattle.dup_build.proofs.Builds.{open_from}
 use Rattle.dup_model.specs.Found.{found}
 use Rattle.dup_build.proofs.build.Build.closing_now.Goals as goal
 
-pub turn_pages-requires-clause-joined : goal.turn_pages-requires-clause-joined
-turn_pages-requires-clause-joined c =
+pub turn-requires-clause-joined : goal.turn-requires-clause-joined
+turn-requires-clause-joined c =
     let open_is : c.self.inside.is_open ≡ true = open_from c.self.inside.is_open (work_in c.self.inside) c.args.self.now.works.work (ap (λ (b : Built). b.works.work) c.self.view_is) c.requires.busy in
     ap (λ (o : Bool). unjoined_by c.self.inside.stock.content (cond o (Some (work_in c.self.inside)) None)) (sym open_is)
     ∙ ap (λ (b : Built). unjoined_by b.works.content b.works.work) c.self.view_is ∙ c.requires.joined
 
-pub turn_pages-requires-clause-rising : goal.turn_pages-requires-clause-rising
-turn_pages-requires-clause-rising c = ap (is_sorted text_cmp) c.pages_of.ensures ∙ c.self.invariant.rising
+pub turn-requires-clause-rising : goal.turn-requires-clause-rising
+turn-requires-clause-rising c = ap (is_sorted text_cmp) c.pages_of-last.ensures ∙ c.self.invariant.rising
 
-pub turn_pages-requires-clause-shown : goal.turn_pages-requires-clause-shown
-turn_pages-requires-clause-shown c =
+pub turn-requires-clause-shown : goal.turn-requires-clause-shown
+turn-requires-clause-shown c =
     let open_is : c.self.inside.is_open ≡ true = open_from c.self.inside.is_open (work_in c.self.inside) c.args.self.now.works.work (ap (λ (b : Built). b.works.work) c.self.view_is) c.requires.busy in
-    subst (λ pages. All (IsCurrent c.self.inside.stock.content c.self.inside.stock.looked c.self.inside.once) (looks_in pages)) (sym c.pages_of.ensures)
+    subst (λ pages. All (IsCurrent c.self.inside.stock.content c.self.inside.stock.looked c.self.inside.once) (looks_in pages)) (sym c.pages_of-last.ensures)
     (subst (λ (o : Bool). All (IsCurrent c.self.inside.stock.content c.self.inside.stock.looked (cond o c.self.inside.once [])) (looks_in (pages_in c.self.inside.target))) open_is c.self.invariant.shown)
 
-pub returns : goal.returns
-returns c =
+pub returns-clause-closing : goal.returns-clause-closing
+returns-clause-closing c =
     let open_is : c.self.inside.is_open ≡ true = open_from c.self.inside.is_open (work_in c.self.inside) c.args.self.now.works.work (ap (λ (b : Built). b.works.work) c.self.view_is) c.requires.busy in
     let work_is : c.args.self.now.works.work ≡ Some (work_in c.self.inside) = ap (λ (b : Built). b.works.work) (sym c.self.view_is) ∙ ap (λ (o : Bool). cond o (Some (work_in c.self.inside)) None) open_is in
     let looks : looks_by_path c.of.result ≡ page_looks c.self.inside.stock.content = ap looks_by_path c.of.ensures ∙ c.in_ok-turned.ensures.pages in
     let touched : AreTouched c.self.inside.once (pages_in c.self.inside.target) (page_looks c.self.inside.stock.content) c.in_ok-turned.turned.touched.items =
-    subst (λ pages. AreTouched c.self.inside.once pages (page_looks c.self.inside.stock.content) c.in_ok-turned.turned.touched.items) c.pages_of.ensures c.in_ok-turned.ensures.touched in
+    subst (λ pages. AreTouched c.self.inside.once pages (page_looks c.self.inside.stock.content) c.in_ok-turned.turned.touched.items) c.pages_of-last.ensures c.in_ok-turned.ensures.touched in
     record {
       busy = c.requires.busy;
       calm = c.requires.calm;

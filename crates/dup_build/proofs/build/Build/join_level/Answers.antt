@@ -13,6 +13,7 @@ use Rattle.dup_walk.specs.OverReads.{HasReads}
 use Rattle.dup_build.specs.Build.{IsBuild, as_built, work_in, works_in}
 use Rattle.dup_build.specs.Built.{Built, done_by, level_by, looked_by, waiting_by}
 use Rattle.dup_build.specs.Paths.{IsCurrent, looks_in}
+use Rattle.dup_build.specs.Spare.{AreTurned}
 use Rattle.dup_build.specs.Stocked.{Stocked, level_in, waiting_in}
 use Rattle.dup_build.specs.Targets.{pages_in}
 use Rattle.dup_build.proofs.Builds.{open_from}
@@ -87,6 +88,7 @@ invariant_of-self-in_default c =
       is_looked = ap (λ (o : Bool). looked_by c.join.new.self.content (option_map (λ t. t.version) c.self.inside.target) (cond o (Some (work_in after)) None)) (sym open_is);
       reads = subst (λ (s : Stocked). HasReads s.content s.done c.self.inside.graph) (sym c.in_default.ensures.ok) c.self.invariant.reads;
       planned = c.plan.ensures;
+      turned = subst (λ (s : Stocked). AreTurned c.self.inside.same_pages s.content (pages_in c.self.inside.target) c.self.inside.spare) (sym c.in_default.ensures.ok) c.self.invariant.turned;
       rising = c.self.invariant.rising;
       shown = subst (λ (s : Stocked). All (IsCurrent s.content s.looked (cond c.self.inside.is_open c.add_all.new.self [])) looks) (sym c.in_default.ensures.ok)
           (subst (λ (o : Bool). All (IsCurrent c.self.inside.stock.content (in_order obj_cmp (c.args.level.now ++ c.self.inside.stock.looked)) (cond o c.add_all.new.self [])) looks) (sym open_is) now);

@@ -15,6 +15,7 @@ use Rattle.std.specs.FinMap as fin
 use Rattle.dup_build.specs.Nodes.{IsNode}
 use Rattle.dup_build.specs.Build.{IsBuild, once_in, work_in}
 use Rattle.dup_build.specs.Paths.{IsCurrent, looks_in}
+use Rattle.dup_build.specs.Spare.{AreTurned}
 use Rattle.dup_build.specs.Targets.{pages_in}
 use Rattle.dup_build.specs.Built.{Built, done_by, looked_by}
 use Rattle.dup_build.specs.Stocked.{Stocked}
@@ -34,6 +35,7 @@ invariant_of-self-in_default c =
       is_done = ap (λ (o : Bool). done_by c.keep.new.self.content (option_map (λ t. t.version) c.self.inside.target) (cond o (Some (work_in after)) None)) (sym open_is);
       is_looked = ap (λ (o : Bool). looked_by c.keep.new.self.content (option_map (λ t. t.version) c.self.inside.target) (cond o (Some (work_in after)) None)) (sym open_is);
       planned = tt;
+      turned = subst (λ (s : Stocked). AreTurned c.self.inside.same_pages s.content (pages_in c.self.inside.target) c.self.inside.spare) (sym c.in_default.ensures.ok) c.self.invariant.turned;
       rising = c.self.invariant.rising;
       shown = subst (λ (s : Stocked). All (IsCurrent s.content s.looked (once_in c.self.inside)) (looks_in (pages_in c.self.inside.target))) (sym c.in_default.ensures.ok) c.self.invariant.shown;
       reads = subst (λ (s : Stocked). HasReads s.content s.done c.put_node.new.graph) (sym c.in_default.ensures.ok)
@@ -57,6 +59,7 @@ invariant_of-self-2 c =
       is_done = c.self.invariant.is_done;
       is_looked = c.self.invariant.is_looked;
       planned = c.self.invariant.planned;
+      turned = c.self.invariant.turned;
       rising = c.self.invariant.rising;
       shown = c.self.invariant.shown;
       reads = subst (λ (g : Nodes). HasReads c.self.inside.stock.content c.self.inside.stock.done g)

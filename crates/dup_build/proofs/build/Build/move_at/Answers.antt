@@ -1,4 +1,4 @@
-use Rattle.std.proofs.Common.{◌≡◌, Bool, true, cond, Some, None, sym, ap, ◌∙◌, subst}
+use Rattle.std.proofs.Common.{◌≡◌, Bool, true, cond, ◌&&◌, Some, None, sym, ap, ◌∙◌, subst}
 use Rattle.std.specs.List.{All}
 use Rattle.std.specs.Option.{option_map}
 use Rattle.dup_names.specs.Objects.{is_in}
@@ -8,6 +8,8 @@ use Rattle.dup_walk.specs.OverReads.{HasReads}
 use Rattle.dup_build.specs.Build.{IsBuild, once_in, work_in}
 use Rattle.dup_build.specs.Paths.{IsCurrent, looks_in}
 use Rattle.dup_build.specs.Targets.{pages_in}
+use Rattle.dup_build.specs.Spare.{AreTurned}
+use Rattle.dup_build.proofs.Renewing.{turned_moved}
 use Rattle.dup_build.proofs.Showing.{current_moved}
 use Rattle.dup_build.specs.Built.{Built, done_by, done_in, looked_by, looked_in}
 use Rattle.dup_build.specs.Stocked.{Stocked}
@@ -31,6 +33,9 @@ invariant_of-self-2 c =
       is_done = ap (λ (o : Bool). done_by c.move_to.new.self.content (option_map (λ t. t.version) c.self.inside.target) (cond o (Some (work_in after)) None)) (sym open_is);
       is_looked = ap (λ (o : Bool). looked_by c.move_to.new.self.content (option_map (λ t. t.version) c.self.inside.target) (cond o (Some (work_in after)) None)) (sym open_is);
       planned = tt;
+      turned = subst (λ (s : Stocked). AreTurned (c.self.inside.same_pages && c.args.same_pages) s.content (pages_in c.self.inside.target) c.self.inside.spare) (sym c.in_ok-move_to.ensures.ok)
+          (turned_moved c.self.inside.stock.content c.args.content.now c.self.inside.same_pages c.args.same_pages (pages_in c.self.inside.target) c.self.inside.spare
+          (λ same. ap (λ (b : Built). pages b.works.content) c.self.view_is ∙ c.requires.pages same) c.self.invariant.turned);
       rising = c.self.invariant.rising;
       shown = subst (λ (s : Stocked). All (IsCurrent s.content s.looked (once_in c.self.inside)) (looks_in (pages_in c.self.inside.target))) (sym c.in_ok-move_to.ensures.ok)
           (current_moved c.self.inside.stock.content c.args.content.now (ap (λ (b : Built). b.works.content.frame) c.self.view_is ∙ c.requires.frame) c.self.inside.stock.looked (once_in c.self.inside)

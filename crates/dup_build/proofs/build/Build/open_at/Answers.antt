@@ -1,4 +1,4 @@
-use Rattle.std.proofs.Common.{length, ◌≡◌, Bool, true, false, cond, List, [], refl, sym, ap, ◌∙◌, subst}
+use Rattle.std.proofs.Common.{length, ◌≡◌, Bool, true, false, cond, ◌&&◌, List, [], refl, sym, ap, ◌∙◌, subst}
 use Rattle.std.specs.List.{All}
 use Rattle.dup_names.specs.declared.value.Look.{Look}
 use Rattle.dup_names.specs.Objects.{is_in}
@@ -9,6 +9,8 @@ use Rattle.dup_build.specs.Build.{IsBuild, work_in}
 use Rattle.dup_build.specs.Paths.{IsCurrent, looks_in}
 use Rattle.dup_build.specs.Targets.{pages_in}
 use Rattle.dup_build.proofs.Builds.{closed_from, opened_done}
+use Rattle.dup_build.specs.Spare.{AreTurned}
+use Rattle.dup_build.proofs.Renewing.{turned_moved}
 use Rattle.dup_build.proofs.Showing.{current_moved, current_opened}
 use Rattle.dup_build.specs.Built.{Built, done_in, looked_in}
 use Rattle.dup_build.specs.Stocked.{Stocked, waiting_in}
@@ -36,6 +38,9 @@ invariant_of-self-2 c =
       is_done = refl;
       is_looked = refl;
       planned = tt;
+      turned = subst (λ (s : Stocked). AreTurned (c.self.inside.same_pages && c.args.same_pages) s.content (pages_in c.self.inside.target) c.self.inside.spare) (sym c.in_ok-move_to.ensures.ok)
+          (turned_moved c.self.inside.stock.content c.args.content.now c.self.inside.same_pages c.args.same_pages (pages_in c.self.inside.target) c.self.inside.spare
+          (λ same. ap (λ (b : Built). pages b.works.content) c.self.view_is ∙ c.requires.pages same) c.self.invariant.turned);
       rising = c.self.invariant.rising;
       shown = subst (λ (s : Stocked). All (IsCurrent s.content s.looked c.new.result) looks) (sym c.in_ok-move_to.ensures.ok)
           (current_opened c.args.content.now (without (affected c.self.inside.stock.content c.args.content.now) c.self.inside.stock.looked) c.new.result looks c.new.ensures

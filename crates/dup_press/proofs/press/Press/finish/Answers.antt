@@ -12,6 +12,6 @@ use Rattle.dup_press.proofs.press.Press.finish.Goals as goal
 pub returns-in-Err-clause-step : goal.returns-in-Err-clause-step
 returns-in-Err-clause-step g c =
     let shop = c.self.inside.workshop in
-    let stays = subst (λ (r : Result Closing Finish). IfErr r (λ finish. IsUnclosed finish × IsStep (finish_step shop.journal.site shop.work shop.target) shop (machine.Told.Finished (finish_told finish)) shop)) c.in-Err.is c.in_ok-finish.ensures.stays in
+    let stays = subst (λ (r : Result Closing Finish). IfErr r (λ finish. IsUnclosed finish × IsStep (finish_step shop.journal.site shop.work shop.target) shop (machine.Told.Finished (finish_told finish)) shop)) c.in-Err.is c.in_ok-finish.ensures.unclosed in
     subst (λ (p : Pressed). Tells (finish_step p.works.journal.site p.works.work p.works.target) p (machine.Told.Finished (finish_told c.in-Err.finish)) p) c.self.view_is
     (stays.1 (g.O.Outlet.log c.self.inside.outlet))

@@ -14,7 +14,7 @@ returns-clause-closing c =
     subst (λ (w : Worked). IfOk c.in_ok-closing.closing (IsClosing (built_of w))) c.self.view_is
     (subst (λ (b : Built). IfOk c.in_ok-closing.closing (IsClosing b)) (sym (same_built c.self.inside.journal c.self.inside.build c.self.invariant)) c.in_ok-closing.ensures.closing)
 
-pub returns-clause-stays : goal.returns-clause-stays
-returns-clause-stays c =
+pub returns-clause-unclosed : goal.returns-clause-unclosed
+returns-clause-unclosed c =
     subst (λ (w : Worked). IfErr c.in_ok-closing.closing (λ finish. IsUnclosed finish × IsStep (finish_step w.journal.site w.work w.target) w (machine.Told.Finished (finish_told finish)) w)) c.self.view_is
-    (unclosed_step c.self.inside.journal c.self.inside.build c.in_ok-closing.closing c.self.invariant.works c.in_ok-closing.ensures.told c.in_ok-closing.ensures.stays)
+    (unclosed_step c.self.inside.journal c.self.inside.build c.in_ok-closing.closing c.self.invariant.works c.in_ok-closing.ensures.told c.in_ok-closing.ensures.unclosed)
