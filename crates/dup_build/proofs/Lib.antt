@@ -13,7 +13,6 @@ pub mod Ordered
 pub mod Touching
 pub mod Showing
 pub mod Graphs
-pub mod Contents
 pub mod Holding
 pub mod Leaving
 pub mod Starting

@@ -25,8 +25,3 @@ mod values;
 pub use answers::{Begun, Closing, Finish, Joined, Put};
 pub use build::Build;
 pub use job::Job;
-
-#[cfg(test)]
-mod row_tests;
-#[cfg(test)]
-mod tests;

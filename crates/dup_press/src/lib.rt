@@ -14,6 +14,3 @@ pub use answers::{Published, Status, Summary};
 pub use journal::Journal;
 pub use press::Press;
 pub use workshop::Workshop;
-
-#[cfg(test)]
-mod tests;

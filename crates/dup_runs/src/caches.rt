@@ -7,15 +7,16 @@ use std::process::Abort;
 use std::test::Fail;
 use std::thread::Threads;
 
-// A commit of two events.
-const TWO: &str =
+/// A commit of two events.
+pub(crate) const TWO: &str =
     "commit {\"changes\":[{\"put\":\"event\",\"key\":\"e1\",\"fields\":{\"title\":\"A\"}},{\"put\":\"event\",\"key\":\"e2\",\"fields\":{\"title\":\"B\"}}]}";
 
 const FIRST: &str = "settled 1 edition 1 bundles 1 expanded 1 joined 1 kept 0";
 
 const SECOND: &str = "settled 2 edition 2 bundles 1 expanded 1 joined 1 kept 0";
 
-const BOTH: &str = "settled 1 edition 2 bundles 2 expanded 2 joined 2 kept 0";
+/// What its settle is answered.
+pub(crate) const BOTH: &str = "settled 1 edition 2 bundles 2 expanded 2 joined 2 kept 0";
 
 #[test]
 fn a_page_is_missed_once_and_then_hit(rt: HostRuntime) -> Result<(), Fail> {
@@ -144,50 +145,6 @@ fn a_node_that_is_not_there_has_nothing(rt: HostRuntime) -> Result<(), Fail> {
             ("deliver 16", "no node 16"),
         ],
     )
-}
-
-// A page of a cache that invalidates changes in so many bundles, and then the newest edition is delivered.
-fn delivers_behind(
-    rt: &(impl Abort + Alloc<A = Global> + Threads + Sync),
-    bundles: u64,
-    delivered: &str,
-) -> Result<(), Fail> {
-    let alloc = rt.alloc();
-    let mut input = SITE.to_vec(alloc)?;
-    let mut output = b"site ok\ncommitted 1\n".to_vec(alloc)?;
-    input.extend_from_slice(TWO.as_bytes())?;
-    input.extend_from_slice(
-        b"\nsettle\nnode 1 4 invalidate\nget 1 2 /event/e1\nget 1 2 /event/e2\n",
-    )?;
-    output.extend_from_slice(BOTH.as_bytes())?;
-    output.extend_from_slice(
-        b"\nnode 1\nfound 2 1 miss 10\n<h1>A</h1>\nfound 2 1 miss 10\n<h1>B</h1>\n",
-    )?;
-    for k in 1..=bundles {
-        let put = format!(in alloc;
-            "commit {{\"changes\":[{{\"put\":\"event\",\"key\":\"e1\",\"fields\":{{\"title\":\"t{k}\"}}}}]}}\nsettle\n"
-        )?;
-        input.extend_from_slice(put.as_bytes())?;
-        let version = k.saturating_add(1);
-        let edition = k.saturating_add(2);
-        let told = format!(in alloc;
-            "committed {version}\nsettled {version} edition {edition} bundles 1 expanded 1 joined 1 kept 1\n"
-        )?;
-        output.extend_from_slice(told.as_bytes())?;
-    }
-    input.extend_from_slice(b"deliver 1\n")?;
-    output.extend_from_slice(delivered.as_bytes())?;
-    ends(rt, in_pieces(4096), &input, 0, &output)
-}
-
-#[test]
-fn a_cache_keeps_what_64_bundles_leave(rt: HostRuntime) -> Result<(), Fail> {
-    delivers_behind(&rt, 64, "delivered 1 edition 66 entries 1\n")
-}
-
-#[test]
-fn a_cache_keeps_nothing_over_65_bundles(rt: HostRuntime) -> Result<(), Fail> {
-    delivers_behind(&rt, 65, "delivered 1 edition 67 entries 0\n")
 }
 
 #[test]

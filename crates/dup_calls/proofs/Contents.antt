@@ -67,7 +67,6 @@ pub finished_content : (b : Build) → (finished b).1.content ≡ b.content
 finished_content b = finish_by b b.work
 
 -- a work that was opened is at the given content
-
 abbrev is_opened : Begun → Bool
 is_opened (Opened v n) = true
 is_opened (Same v) = false
@@ -85,3 +84,16 @@ open_by v c b None (Some a) is = of_open v c b (Nothing a) refl (work_from b.con
 
 pub opened_content : (v : ℕ) (c : Content) (b : Build) (n m : ℕ) → Opened n m ≡ (begun v c b).0 → (begun v c b).1.content ≡ c
 opened_content v c b n m is = open_by v c b b.work b.target (ap is_opened (sym is))
+
+-- and a build that was at the given content stays there
+again_open : (v : ℕ) (c : Content) (b : Build) (same : Begun) (w : Work) (t : Bool) → b.content ≡ c → (cond t (same, b) (opened_at v c w b)).1.content ≡ c
+again_open v c b same w true is = is
+again_open v c b same w false is = refl
+
+again_by : (v : ℕ) (c : Content) (b : Build) (work : Option Work) (target : Option ℕ) → b.content ≡ c → (begin_in v c work target b).1.content ≡ c
+again_by v c b (Some w) target is = again_open v c b (Same w.version) (moved b.content v c w) (w.version == v) is
+again_by v c b None None is = refl
+again_by v c b None (Some a) is = again_open v c b (Nothing a) (work_from b.content v c) (a == v) is
+
+pub again_content : (v : ℕ) (c : Content) (b : Build) → b.content ≡ c → (begun v c b).1.content ≡ c
+again_content v c b is = again_by v c b b.work b.target is
