@@ -19,13 +19,14 @@ use Rattle.dup_records.specs.declared.refusal.CommitRefusal.TheVariants as cause
 use Rattle.dup_cache.specs.Holding.{BeginsWith}
 use Rattle.dup_cache.proofs.Holding.{growing_holds}
 use Rattle.dup_press.specs.Pressed.{IsSamePlace, Pressed, Tells, pressed}
-use Rattle.dup_press.specs.Told.{IsSettled}
+use Rattle.dup_press.specs.Told.{IsSettled, IsStatus}
+use Rattle.dup_press.specs.declared.answers.Status.{Status}
 use Rattle.dup_press.specs.declared.answers.Summary.{Summary}
 use Rattle.dup_transcript.specs.Commands.{Command}
-use Rattle.dup_transcript.specs.Texts.{refusal_text, settled_text, told_text}
+use Rattle.dup_transcript.specs.Texts.{refusal_text, settled_text, status_text, told_text}
 use Rattle.dup_transcript.specs.Turns.{Turns, first_standing}
 use Rattle.dup_transcript.specs.declared.command.Command.TheVariants as command
-use Rattle.dup_transcript.proofs.MachineTurns.{settles_grow, turns_commit, turns_settle}
+use Rattle.dup_transcript.proofs.MachineTurns.{settles_grow, turns_commit, turns_settle, turns_status}
 use Rattle.dup_main.specs.Serving.{AllHold, Nodes, TurnsNodes, cache_at, standing_at}
 use Rattle.dup_main.specs.declared.session.Session.{Session as Kept}
 use Rattle.dup_main.specs.Kept.{Acts, AreSound, IsSound, standing}
@@ -85,6 +86,14 @@ settle_acts s new summary text settled said = turns_settle (site_of s) usual_lim
       said ∙ ap (λ (t : Summary). settled_text t.edition t.bundles (record { version = t.version; expanded = t.expanded; joined = t.joined; kept = t.kept })) h.says,
       (h.events, h.settles, h.press),
     ))
+
+-- the status of a press is that of each machine that stands so
+pub status_acts : (s : Kept) (told : Status) (text : Word) → IsStatus s.press told
+    → text ≡ status_text (record { version = told.version; work = told.work; target = told.target; edition = told.edition; pending = told.pending })
+    → Acts s s 0 command.Status text
+status_acts s told text is said =
+    subst (λ (t : Word). Acts s s 0 command.Status t) (sym said)
+    (turns_status (site_of s) usual_limits (standing s) 0 (record { version = told.version; work = told.work; target = told.target; edition = told.edition; pending = told.pending }) is)
 
 -- a commit leaves the log
 commit_log : (commit : Commit) (why : Option Refusal) (old new : Pressed) (told : Told) → Tells (commit_step commit why) old told new → new.log ≡ old.log

@@ -9,7 +9,7 @@ use Rattle.dup_feed.specs.Feed.{feed_says}
 use Rattle.dup_transcript.specs.declared.command.Command.TheVariants as command
 use Rattle.dup_transcript.specs.Commands.{Command, is_capacity, of_message}
 use Rattle.dup_transcript.specs.OnlyTable.{IsInTable}
-use Rattle.dup_transcript.specs.OnlyTable.IsInTable.{blank, comment, commit, settle, node, deliver, get, evict}
+use Rattle.dup_transcript.specs.OnlyTable.IsInTable.{alone, blank, comment, commit, settle, status, node, deliver, get, evict, with_slot}
 use Rattle.dup_transcript.proofs.OnlyTable.{only_the_table}
 use Rattle.dup_main.specs.Commands.{HasRoom, command_of}
 
@@ -22,6 +22,9 @@ in_table text _ (blank is) = tt
 in_table text _ (comment rest is) = tt
 in_table text _ (commit message is some) = of_a_message (feed_says message)
 in_table text _ (settle is) = tt
+in_table text _ (status is) = tt
+in_table text _ (alone word comes is) = tt
+in_table text _ (with_slot word slot comes fits is) = tt
 in_table text _ (node number capacity mode is_node fits is) = (grind (arith, nat_tests), grind (arith, nat_tests))
 in_table text _ (deliver number is_node is) = tt
 in_table text _ (get number pass path is_node small good is) = tt

@@ -1,7 +1,7 @@
 -- The words of a line, by their number.
 use Rattle.std.proofs.Common.{◌≡◌, ◌≢◌, ℕ, List, [], ◌∷◌, refl, length, get_or, arith}
 use Rattle.std.specs.Borrow.{Bor}
-use Rattle.dup_transcript.specs.declared.command.Command.TheVariants.{NotBuilt}
+use Rattle.dup_transcript.specs.declared.command.Command.TheVariants.{Bad}
 use Rattle.dup_main.specs.Commands.{seen}
 use Rattle.dup_transcript.specs.Commands.{by_words, one_word, two_words, three_words, four_words}
 
@@ -33,7 +33,7 @@ at_four (x ∷ y ∷ z ∷ []) d size = absurd (omega arith)
 at_four (x ∷ y ∷ z ∷ w ∷ []) d size = refl
 at_four (x ∷ y ∷ z ∷ w ∷ v ∷ ws) d size = absurd (omega arith)
 
-pub at_other : (ws : List (Bor (List ℕ))) → length ws ≢ 1 → length ws ≢ 2 → length ws ≢ 3 → length ws ≢ 4 → NotBuilt ≡ by_words (seen ws)
+pub at_other : (ws : List (Bor (List ℕ))) → length ws ≢ 1 → length ws ≢ 2 → length ws ≢ 3 → length ws ≢ 4 → Bad ≡ by_words (seen ws)
 at_other [] one two three four = refl
 at_other (a ∷ []) one two three four = absurd (one (omega arith))
 at_other (a ∷ b ∷ []) one two three four = absurd (two (omega arith))

@@ -3,7 +3,7 @@ ghost use Rattle.std.specs.Option.{option_copied};
 ghost use Rattle.dup_feed.specs.Feed.{feed_says};
 ghost use Rattle.dup_template.specs.Good.{behind};
 ghost use Rattle.dup_main.specs.Commands.{HasRoom, command_of, seen};
-ghost use Rattle.dup_transcript.specs.Commands.{by_message, by_start, by_words, deliver_command, evict_command, four_words, get_command, if_more, message_of, mode_of, node_command, of_message, one_word, three_words, two_words};
+ghost use Rattle.dup_transcript.specs.Commands.{by_message, by_start, by_words, comes_alone, comes_with_slot, deliver_command, evict_command, four_words, get_command, if_more, message_of, mode_of, node_command, of_message, one_word, slot_command, three_words, two_words};
 ghost use Rattle.dup_transcript.specs.Numbers.{number_of};
 
 use crate::number::read_number;
@@ -36,7 +36,7 @@ fn node_command(number: &[u8], capacity: &[u8], mode: &[u8]) -> Command<Commit>
             capacity: capacity as u32,
             mode,
         },
-        _ => Command::NotBuilt,
+        _ => Command::Bad,
     }
 }
 
@@ -49,7 +49,7 @@ fn get_command(node: &[u8], pass: &[u8], path: &[u8]) -> Command<Commit>
             pass,
             path,
         },
-        _ => Command::NotBuilt,
+        _ => Command::Bad,
     }
 }
 
@@ -58,7 +58,7 @@ fn deliver_command(node: &[u8]) -> Command<Commit>
 {
     match read_number(node) {
         Some(node @ 1..=16) => Command::Deliver(node as u16),
-        _ => Command::NotBuilt,
+        _ => Command::Bad,
     }
 }
 
@@ -70,7 +70,33 @@ fn evict_command(node: &[u8], path: &[u8]) -> Command<Commit>
             node: node as u16,
             path,
         },
-        _ => Command::NotBuilt,
+        _ => Command::Bad,
+    }
+}
+
+// Whether it is a command of one word that isn't built.
+fn comes_alone(word: &[u8]) -> bool
+    ensures { result ≡ comes_alone word.now }
+{
+    is_word(word, b"begin")
+        || is_word(word, b"join")
+        || is_word(word, b"finish")
+        || is_word(word, b"publish")
+}
+
+// Whether it is a command of a slot, none of which is built.
+fn comes_with_slot(word: &[u8]) -> bool
+    ensures { result ≡ comes_with_slot word.now }
+{
+    is_word(word, b"hand") || is_word(word, b"put")
+}
+
+fn slot_command(slot: &[u8]) -> Command<Commit>
+    ensures { result ≡ slot_command (number_of slot.now) }
+{
+    match read_number(slot) {
+        Some(1..=64) => Command::NotBuilt,
+        _ => Command::Bad,
     }
 }
 
@@ -79,8 +105,12 @@ fn one_word(word: &[u8]) -> Command<Commit>
 {
     if is_word(word, b"settle") {
         Command::Settle
-    } else {
+    } else if is_word(word, b"status") {
+        Command::Status
+    } else if comes_alone(word) {
         Command::NotBuilt
+    } else {
+        Command::Bad
     }
 }
 
@@ -89,8 +119,10 @@ fn two_words(word: &[u8], a: &[u8]) -> Command<Commit>
 {
     if is_word(word, b"deliver") {
         deliver_command(a)
+    } else if comes_with_slot(word) {
+        slot_command(a)
     } else {
-        Command::NotBuilt
+        Command::Bad
     }
 }
 
@@ -100,7 +132,7 @@ fn three_words(word: &[u8], a: &[u8], b: &[u8]) -> Command<Commit>
     if is_word(word, b"evict") {
         evict_command(a, b)
     } else {
-        Command::NotBuilt
+        Command::Bad
     }
 }
 
@@ -112,7 +144,7 @@ fn four_words(word: &[u8], a: &[u8], b: &[u8], c: &[u8]) -> Command<Commit>
     } else if is_word(word, b"get") {
         get_command(a, b, c)
     } else {
-        Command::NotBuilt
+        Command::Bad
     }
 }
 
@@ -125,7 +157,7 @@ fn by_words(words: &[&[u8]]) -> Command<Commit>
         2 => two_words(words[0], words[1]),
         3 => three_words(words[0], words[1], words[2]),
         4 => four_words(words[0], words[1], words[2], words[3]),
-        _ => Command::NotBuilt,
+        _ => Command::Bad,
     }
 }
 

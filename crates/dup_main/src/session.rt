@@ -1,7 +1,9 @@
 ghost use Rattle.std.specs.Prelude.{◌≡◌, IfOk, OnOk};
 
 use crate::serving::{Nodes, add_node, deliver, evict, get};
-use crate::texts::{bad_feed_text, committed_text, not_built, refusal_text, settled_text};
+use crate::texts::{
+    bad_feed_text, bad_line, committed_text, not_built, refusal_text, settled_text, status_text,
+};
 use dup_edition::PlainOutlet;
 use dup_model::Mode;
 use dup_names::{Meter, NoMemory, Path};
@@ -66,6 +68,13 @@ impl Session {
     {
         let summary = self.press.settle(rt, alloc, &mut self.meter)?;
         Ok(settled_text(alloc, summary)?.into_bytes())
+    }
+
+    fn status(&self, alloc: Global) -> Result<Vec<u8>, NoMemory>
+        ensures { IfOk result (λ text. Acts self.now self.now 0 command.Status text.items) }
+    {
+        let status = self.press.status();
+        Ok(status_text(alloc, status)?.into_bytes())
     }
 
     fn add_node(
@@ -155,7 +164,9 @@ impl Session {
             Command::Deliver(number) => self.deliver(alloc, number),
             Command::Get { node, pass, path } => self.get(alloc, node, pass, &path),
             Command::Evict { node, path } => self.evict(alloc, node, &path),
+            Command::Status => self.status(alloc),
             Command::NotBuilt => Ok(not_built(alloc, at_line)?.into_bytes()),
+            Command::Bad => Ok(bad_line(alloc, at_line)?.into_bytes()),
         }
     }
 }

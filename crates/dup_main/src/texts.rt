@@ -5,7 +5,7 @@ ghost use Rattle.dup_records.specs.Refusals.{Names};
 ghost use Rattle.dup_transcript.specs.BadSites.{rule_text};
 ghost use Rattle.dup_machine.specs.World as machine;
 ghost use Rattle.dup_node.specs.Replies.{how_told, reply_told};
-ghost use Rattle.dup_transcript.specs.Texts.{bad_feed_text, bad_line_text, found_text, how_word, refusal_text, settled_text, told_text};
+ghost use Rattle.dup_transcript.specs.Texts.{bad_feed_text, bad_line_text, found_text, how_word, refusal_text, settled_text, status_text, told_text, version_word, yes_or_no};
 ghost use Rattle.dup_names.specs.Lines.{line};
 
 use crate::bad_site::put_rule;
@@ -14,7 +14,7 @@ use dup_edition::Page;
 use dup_model::FeedRefusal;
 use dup_names::NoMemory;
 use dup_node::Reply;
-use dup_press::Summary;
+use dup_press::{Status, Summary};
 use dup_records::CommitRefusal;
 use dup_template::SiteRefusal;
 use std::alloc::{AllocError, Global};
@@ -139,6 +139,45 @@ pub(crate) fn settled_text(alloc: Global, summary: Summary) -> Result<String, Al
     } = summary;
     format!(in alloc;
         "settled {version} edition {edition} bundles {bundles} expanded {expanded} joined {joined} kept {kept}\n"
+    )
+}
+
+fn version_word(alloc: Global, version: Option<u64>) -> Result<String, AllocError>
+    ensures { IfOk result (λ text. string_bytes text ≡ version_word version) }
+{
+    match version {
+        Some(version) => format!(in alloc; "{version}"),
+        None => format!(in alloc; "-"),
+    }
+}
+
+fn yes_or_no(is_so: bool) -> &'static str
+    ensures { result.now ≡ yes_or_no is_so }
+{
+    if is_so { "yes" } else { "no" }
+}
+
+pub(crate) fn status_text(alloc: Global, status: Status) -> Result<String, AllocError>
+    ensures { IfOk result (λ text. string_bytes text ≡ status_text (record {
+      version = status.version;
+      work = status.work;
+      target = status.target;
+      edition = status.edition;
+      pending = status.pending;
+    })) }
+{
+    let Status {
+        version,
+        work,
+        target,
+        edition,
+        pending,
+    } = status;
+    let work = version_word(alloc, work)?;
+    let target = version_word(alloc, target)?;
+    let pending = yes_or_no(pending);
+    format!(in alloc;
+        "version {version} work {work} target {target} edition {edition} pending {pending}\n"
     )
 }
 

@@ -27,3 +27,5 @@ mod renders;
 mod settles;
 #[cfg(test)]
 mod sites;
+#[cfg(test)]
+mod statuses;

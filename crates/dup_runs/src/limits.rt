@@ -45,7 +45,7 @@ fn a_line_of_the_script_may_be_so_long(rt: HostRuntime) -> Result<(), Fail> {
     let alloc = rt.alloc();
     let long = repeated(alloc, b'x', 262_144)?;
     let input = joined(alloc, &[SITE, &long])?;
-    ends(&rt, in_pieces(4096), &input, 0, b"site ok\nnot built 9\n")?;
+    ends(&rt, in_pieces(4096), &input, 0, b"site ok\nbad line 9\n")?;
     let input = joined(alloc, &[SITE, b"node 1 4 update\n", &long, b"x\nsettle\n"])?;
     let output = b"site ok\nnode 1\ntoo long: line 10\n";
     ends(&rt, in_pieces(4096), &input, 7, output)
@@ -131,5 +131,5 @@ fn request_has(
 #[test]
 fn paths_have_200_bytes_at_most(rt: HostRuntime) -> Result<(), Fail> {
     request_has(&rt, 200, b"absent 0\n")?;
-    request_has(&rt, 201, b"not built 10\n")
+    request_has(&rt, 201, b"bad line 10\n")
 }

@@ -49,7 +49,7 @@ found 1 1 miss 13
 <h1>100m</h1>
 absent 1
 no node 2
-not built 15
+bad line 15
 node 1 taken
 ahead 99 1
 ahead 18446744073709551615 1
@@ -120,8 +120,8 @@ fn lines_that_say_nothing_have_no_answer(rt: HostRuntime) -> Result<(), Fail> {
 }
 
 #[test]
-fn commands_outside_the_table_are_not_built(rt: HostRuntime) -> Result<(), Fail> {
-    let lines: [&[u8]; 37] = [
+fn lines_outside_the_table_are_bad(rt: HostRuntime) -> Result<(), Fail> {
+    let lines: [&[u8]; 50] = [
         b"hello",
         b"Settle",
         b"settle now",
@@ -145,8 +145,6 @@ fn commands_outside_the_table_are_not_built(rt: HostRuntime) -> Result<(), Fail>
         b"get 1 0 /event/",
         b"get 1 0 /Event",
         b"get 1 0 / now",
-        b"status",
-        b"begin",
         b"deliver",
         b"deliver 0",
         b"deliver 17",
@@ -158,14 +156,45 @@ fn commands_outside_the_table_are_not_built(rt: HostRuntime) -> Result<(), Fail>
         b"evict 17 /",
         b"evict 1 event/e1",
         b"evict 1 / now",
+        b"status now",
+        b"Status",
+        b"begin 1",
+        b"hand",
+        b"hand 0",
+        b"hand 65",
+        b"hand 01",
+        b"hand 1 2",
+        b"put",
+        b"put 0",
+        b"put 65",
+        b"put one",
+        b"join 1",
+        b"finish now",
+        b"publish 1",
         b"\xff",
     ];
-    each_answers(&rt, &lines, b"not built 9\n")
+    each_answers(&rt, &lines, b"bad line 9\n")
 }
 
 #[test]
-fn commits_without_a_message_are_not_built(rt: HostRuntime) -> Result<(), Fail> {
+fn commits_without_a_message_are_bad(rt: HostRuntime) -> Result<(), Fail> {
     let lines: [&[u8]; 3] = [b"commit", b"commit   ", b"commit\t{}"];
+    each_answers(&rt, &lines, b"bad line 9\n")
+}
+
+#[test]
+fn commands_of_works_are_not_built(rt: HostRuntime) -> Result<(), Fail> {
+    let lines: [&[u8]; 9] = [
+        b"begin",
+        b"hand 1",
+        b"  hand   64  ",
+        b"put 1",
+        b"put 64",
+        b"join",
+        b"finish",
+        b" finish ",
+        b"publish",
+    ];
     each_answers(&rt, &lines, b"not built 9\n")
 }
 

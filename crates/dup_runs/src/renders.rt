@@ -177,9 +177,11 @@ commit {\"changes\":[{\"put\":\"event\",\"key\":\"e1\",\"fields\":{\"title\":\"<
 
 #[test]
 fn other_lines_are_bad_lines(rt: HostRuntime) -> Result<(), Fail> {
-    let lines: [&[u8]; 6] = [
+    let lines: [&[u8]; 8] = [
         b"hello",
         b"settle",
+        b"status",
+        b"begin",
         b"node 1 4 update",
         b"get 1 0 /event/e1",
         b"commit",

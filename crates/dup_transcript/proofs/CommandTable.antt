@@ -10,9 +10,9 @@ use Rattle.dup_names.proofs.LineWords.{is_word_byte, is_word, bytes-of, split-wo
 use Rattle.dup_names.specs.Grammar.{is_digit, is_path}
 use Rattle.dup_names.specs.LineWords.{line_words, is_space, spaced}
 use Rattle.dup_names.specs.Words.{Word}
-use Rattle.dup_transcript.specs.Commands.{Feed, is_capacity, is_node, mode_of, line_command, by_words}
+use Rattle.dup_transcript.specs.Commands.{Feed, is_capacity, is_node, is_slot, mode_of, line_command, by_words}
 use Rattle.dup_transcript.specs.CommandTable.{EachIsRead, mode_word}
-use Rattle.dup_transcript.specs.declared.command.Command.TheVariants.{Settle, Node, Deliver, Get, Evict, NotBuilt}
+use Rattle.dup_transcript.specs.declared.command.Command.TheVariants.{Bad, Settle, Status, Node, Deliver, Get, Evict, NotBuilt}
 use Rattle.dup_model.specs.declared.mode.Mode.{Mode}
 use Rattle.dup_model.specs.declared.mode.Mode.TheVariants.{Invalidate, Update}
 use Rattle.dup_transcript.proofs.Numbers.{read_decimal, decimal_digits}
@@ -63,18 +63,21 @@ mode_is_word : (mode : Mode) → is_word (mode_word mode) ≡ true
 mode_is_word Update = refl
 mode_is_word Invalidate = refl
 
-mode_read : (mode : Mode) → mode_of (mode_word mode) ≡ Some mode
+pub mode_read : (mode : Mode) → mode_of (mode_word mode) ≡ Some mode
 mode_read Update = refl
 mode_read Invalidate = refl
 
-node_small : (n : ℕ) → is_node n ≡ true → n < 2 ^ 64
+pub node_small : (n : ℕ) → is_node n ≡ true → n < 2 ^ 64
 node_small n h = grind (arith, nat_tests)
 
-capacity_small : (n : ℕ) → is_capacity n ≡ true → n < 2 ^ 64
+pub slot_small : (n : ℕ) → is_slot n ≡ true → n < 2 ^ 64
+slot_small n h = grind (arith, nat_tests)
+
+pub capacity_small : (n : ℕ) → is_capacity n ≡ true → n < 2 ^ 64
 capacity_small n h = grind (arith, nat_tests)
 
 module _ (feed : Feed) where
-  no_message_read : (spaces : Word) → list_all is_space spaces ≡ true → line_command feed (codes "commit" ++ spaces) ≡ NotBuilt
+  no_message_read : (spaces : Word) → list_all is_space spaces ≡ true → line_command feed (codes "commit" ++ spaces) ≡ Bad
   no_message_read [] h = refl
   no_message_read (b ∷ spaces) h =
       let both = and_parts (is_space b) (list_all is_space spaces) h in
@@ -82,6 +85,33 @@ module _ (feed : Feed) where
 
   settle_read : (spaces : Word) → list_all is_space spaces ≡ true → line_command feed (codes "settle" ++ spaces) ≡ Settle
   settle_read spaces h = ap by_words (before_spaces (codes "settle") spaces refl h)
+
+  status_read : (spaces : Word) → list_all is_space spaces ≡ true → line_command feed (codes "status" ++ spaces) ≡ Status
+  status_read spaces h = ap by_words (before_spaces (codes "status") spaces refl h)
+
+  begin_read : (spaces : Word) → list_all is_space spaces ≡ true → line_command feed (codes "begin" ++ spaces) ≡ NotBuilt
+  begin_read spaces h = ap by_words (before_spaces (codes "begin") spaces refl h)
+
+  join_read : (spaces : Word) → list_all is_space spaces ≡ true → line_command feed (codes "join" ++ spaces) ≡ NotBuilt
+  join_read spaces h = ap by_words (before_spaces (codes "join") spaces refl h)
+
+  finish_read : (spaces : Word) → list_all is_space spaces ≡ true → line_command feed (codes "finish" ++ spaces) ≡ NotBuilt
+  finish_read spaces h = ap by_words (before_spaces (codes "finish") spaces refl h)
+
+  publish_read : (spaces : Word) → list_all is_space spaces ≡ true → line_command feed (codes "publish" ++ spaces) ≡ NotBuilt
+  publish_read spaces h = ap by_words (before_spaces (codes "publish") spaces refl h)
+
+  hand_read : (slot : ℕ) → is_slot slot ≡ true → line_command feed (spaced (codes "hand" ∷ decimal slot ∷ [])) ≡ NotBuilt
+  hand_read slot n =
+      let small = slot_small slot n in
+      ap by_words (words_of_two (codes "hand") (decimal slot) refl (decimal_word slot small))
+      ∙ rw (read_decimal slot small, n) refl
+
+  put_read : (slot : ℕ) → is_slot slot ≡ true → line_command feed (spaced (codes "put" ∷ decimal slot ∷ [])) ≡ NotBuilt
+  put_read slot n =
+      let small = slot_small slot n in
+      ap by_words (words_of_two (codes "put") (decimal slot) refl (decimal_word slot small))
+      ∙ rw (read_decimal slot small, n) refl
 
   node_read : (number capacity : ℕ) (mode : Mode) → is_node number ≡ true → is_capacity capacity ≡ true →
       line_command feed (spaced (codes "node" ∷ decimal number ∷ decimal capacity ∷ mode_word mode ∷ [])) ≡ Node number capacity mode
@@ -119,8 +149,15 @@ each_is_read feed = record {
   commit = λ message h. rw h refl;
   no_message = no_message_read feed;
   settle = settle_read feed;
+  status = status_read feed;
   node = node_read feed;
   deliver = deliver_read feed;
   get = get_read feed;
   evict = evict_read feed;
+  begin = begin_read feed;
+  hand = hand_read feed;
+  put = put_read feed;
+  join = join_read feed;
+  finish = finish_read feed;
+  publish = publish_read feed;
 }

@@ -14,3 +14,4 @@ pub mod MachineTurns
 pub mod ScriptRowsComputed
 pub mod ScriptRuns
 pub mod OnlyTable
+pub mod TableRead

@@ -1,6 +1,7 @@
 -- The machine answers each list of commands, and in one way.
 use Rattle.std.proofs.Common.{◌≡◌, ℕ, zero, suc, ◌+◌, ◌-◌, inl, inr, Bool, true, false, not, List, [], ◌∷◌, ◌++◌, length, drop, take, refl, sym, ap, subst, ◌∙◌}
-use Rattle.std.specs.Prelude.{Option, Some, None, bytes_eq}
+use Rattle.std.specs.Option.{option_map}
+use Rattle.std.specs.Prelude.{◌||◌, Option, Some, None, bytes_eq, is_some}
 use Rattle.std.specs.List.{filter, fold, list_any}
 use Rattle.std.specs.FinMap as fin
 use Rattle.std.specs.Ordering.{nat_cmp}
@@ -31,9 +32,9 @@ use Rattle.dup_model.specs.Pages.{Target, live}
 use Rattle.dup_machine.specs.Press.{published_by, target_of}
 use Rattle.dup_machine.specs.Presses.{commit_told, version_of}
 use Rattle.dup_machine.specs.Run.{run, step}
-use Rattle.dup_machine.specs.Status.{NothingPending}
+use Rattle.dup_machine.specs.Status.{NothingPending, is_of, status}
 use Rattle.dup_machine.specs.Settle.{IsSettled, Settles, counts_of, publishes, publishing, settling}
-use Rattle.dup_transcript.specs.Texts.{bad_feed_text, not_built_text, settled_text, told_text}
+use Rattle.dup_transcript.specs.Texts.{bad_feed_text, bad_line_text, not_built_text, settled_text, status_text, told_text}
 use Rattle.dup_model.specs.Versions.{IsHistory, content, target_content}
 use Rattle.dup_model.specs.Pages.{target_at}
 use Rattle.dup_machine.specs.World.{Counts, Event, Told, World, answered, first_world, told}
@@ -89,6 +90,15 @@ module _ (site : Parts) (limits : Limits) where
 
   same_next : (v u : World) → Alike v u → next_of v ≡ next_of u
   same_next v u a = λ i. bundle (edition (a.log i)) (same_target v u a i)
+
+  same_status : (v u : World) → Alike v u → status site v ≡ status site u
+  same_status v u a = λ i. record {
+    version = length (a.commits i);
+    work = option_map (λ work. work.version) (a.work i);
+    target = a.target i;
+    edition = length (a.log i);
+    pending = is_some (a.work i) || not (is_of (length (a.commits i)) (a.target i)) || is_some (same_next v u a i);
+  }
 
   -- publishing
 
@@ -420,6 +430,9 @@ module _ (site : Parts) (limits : Limits) where
     turn_same w x number (command.BadFeed why) kept a b said heard alike r q one two = nothing_same w x kept a b said heard (bad_feed_text why) alike r q one two
     turn_same w x number command.Blank kept a b said heard alike r q one two = nothing_same w x kept a b said heard [] alike r q one two
     turn_same w x number command.NotBuilt kept a b said heard alike r q one two = nothing_same w x kept a b said heard (not_built_text number) alike r q one two
+    turn_same w x number command.Bad kept a b said heard alike r q one two = nothing_same w x kept a b said heard (bad_line_text number) alike r q one two
+    turn_same w x number command.Status kept a b said heard alike r q one two =
+        nothing_same w x kept a b said heard (status_text (status site w)) alike r q one (two.0, two.1, two.2 ∙ ap status_text (sym (same_status w x alike)))
 
     -- what is written tells whether a page was kept
     happens_told : (w x : World) (event : Event) (kept other : Bool) (a b : List Event) (said heard : Word) → SameStep w x event → Happens site limits w event kept a said → Happens site limits x event other b heard → kept ≡ other
@@ -476,6 +489,8 @@ module _ (site : Parts) (limits : Limits) where
     turn_told w x number (command.BadFeed why) kept other a b said heard more rest alike r q one two same = one.0 ∙ sym two.0
     turn_told w x number command.Blank kept other a b said heard more rest alike r q one two same = one.0 ∙ sym two.0
     turn_told w x number command.NotBuilt kept other a b said heard more rest alike r q one two same = one.0 ∙ sym two.0
+    turn_told w x number command.Bad kept other a b said heard more rest alike r q one two same = one.0 ∙ sym two.0
+    turn_told w x number command.Status kept other a b said heard more rest alike r q one two same = one.0 ∙ sym two.0
 
     behind : (before events : List Event) → run site limits (before ++ events) ≡ fold (step site limits) (run site limits before) events
     behind before events = fold-append (step site limits) first_world before events
@@ -545,6 +560,8 @@ module _ (site : Parts) (limits : Limits) where
     turn_exists w number (command.BadFeed why) r = ([], (bad_feed_text why, (refl, refl, refl)))
     turn_exists w number command.Blank r = ([], ([], (refl, refl, refl)))
     turn_exists w number command.NotBuilt r = ([], (not_built_text number, (refl, refl, refl)))
+    turn_exists w number command.Bad r = ([], (bad_line_text number, (refl, refl, refl)))
+    turn_exists w number command.Status r = ([], (status_text (status site w), (refl, refl, refl)))
 
     plays_from : (cs : List Command) (before : List Event) (number : ℕ) (last : Word) → IsReady site (run site limits before) → (out : Word) × PlaysBy site limits before number cs (all_kept cs) last out
     plays_from [] before number last r = (last, refl)

@@ -22,6 +22,7 @@ use Rattle.dup_machine.specs.Presses.{Press, commit_step, hand_step, version_of}
 use Rattle.dup_machine.specs.Run.{run, step}
 use Rattle.dup_machine.specs.Settle.{Settles, handing, hands, joining, joins, publishes, publishing, settling}
 use Rattle.dup_machine.specs.Settle.Settles.{at_once, by_work}
+use Rattle.dup_machine.specs.Status.{Status, status}
 use Rattle.dup_machine.specs.Until.{LastTold}
 use Rattle.dup_machine.specs.World.{Counts, Event, Slot, Told, Work, World, answered, first_world, told}
 use Rattle.dup_machine.specs.World.Event.{Begin, Comes, Deliver, Evict, Finish, Hand, Join, Node, Publish, Put, Request}
@@ -29,7 +30,7 @@ use Rattle.dup_machine.specs.World.Told.{Delivered, Evicted, Handed, NodeMade, N
 use Rattle.dup_machine.proofs.LastReply.{told_once}
 use Rattle.dup_transcript.specs.Commands.{Command}
 use Rattle.dup_transcript.specs.MachinePlays.{Happens, tells_kept}
-use Rattle.dup_transcript.specs.Texts.{bad_feed_text, not_built_text, settled_text, told_text}
+use Rattle.dup_transcript.specs.Texts.{bad_feed_text, bad_line_text, not_built_text, settled_text, status_text, told_text}
 use Rattle.dup_transcript.specs.Turns.{PlaysFrom, Standing, StandsAs, Turns, first_standing}
 use Rattle.dup_transcript.specs.declared.command.Command.TheVariants as command
 use Rattle.dup_model.specs.declared.feed_refusal.FeedRefusal.{FeedRefusal}
@@ -149,6 +150,14 @@ module _ (site : Parts) (limits : Limits) where
 
   pub turns_not_built : (s : Standing) (number : ℕ) → Turns site limits s number command.NotBuilt (not_built_text number) s
   turns_not_built s number w f = (true, [], (refl, refl, refl), f)
+
+  pub turns_bad : (s : Standing) (number : ℕ) → Turns site limits s number command.Bad (bad_line_text number) s
+  turns_bad s number w f = (true, [], (refl, refl, refl), f)
+
+  -- the status of each machine whose press is so
+  pub turns_status : (s : Standing) (number : ℕ) (tells : Status) → ((w : World) → press_of w ≡ s.press → status site w ≡ tells)
+      → Turns site limits s number command.Status (status_text tells) s
+  turns_status s number tells is w f = (true, [], (refl, refl, ap status_text (sym (is w f.press))), f)
 
   -- settling leaves the nodes, and the slot empty, and the log grows
   record Keeps (w v : World) : Type 0 where

@@ -1,4 +1,4 @@
--- Each line is one of the table, or isn't built.
+-- Each line is one of the table, or is bad.
 use Rattle.std.proofs.Common.{◌≡◌, ◌⊎◌, inl, inr, ℕ, Bool, true, false, ◌&&◌, List, [], ◌∷◌, ◌++◌, refl, sym, ap, ◌∙◌}
 use Rattle.std.specs.Prelude.{Option, Some, None, codes, drop, if◌then◌else◌, length, nat_eq, take}
 use Rattle.std.specs.Fmt.{decimal}
@@ -15,19 +15,19 @@ use Rattle.dup_model.specs.declared.mode.Mode.{Mode}
 use Rattle.dup_model.specs.declared.mode.Mode.TheVariants.{Invalidate, Update}
 use Rattle.dup_transcript.specs.declared.command.Command.TheVariants as command
 use Rattle.dup_transcript.specs.CommandTable.{mode_word}
-use Rattle.dup_transcript.specs.Commands.{Command, Feed, by_message, by_start, by_words, deliver_command, evict_command, get_command, if_more, is_capacity, is_node, message_of, mode_of, node_command, of_message, one_word, two_words, three_words, four_words}
+use Rattle.dup_transcript.specs.Commands.{Command, Feed, by_message, by_start, by_words, comes_alone, comes_with_slot, deliver_command, evict_command, get_command, if_more, is_capacity, is_node, is_slot, message_of, mode_of, node_command, of_message, one_word, slot_command, two_words, three_words, four_words}
 use Rattle.dup_transcript.specs.Numbers.{number_of}
 use Rattle.dup_transcript.specs.OnlyTable.{IsInTable, OnlyTheTable}
-use Rattle.dup_transcript.specs.OnlyTable.IsInTable.{blank, comment, commit, settle, node, deliver, get, evict}
+use Rattle.dup_transcript.specs.OnlyTable.IsInTable.{alone, blank, comment, commit, settle, status, node, deliver, get, evict, with_slot}
 use Rattle.dup_transcript.proofs.Numbers.{numbers_are_decimal}
 
-same_is : (a b : Word) → same a b ≡ true → a ≡ b
+pub same_is : (a b : Word) → same a b ≡ true → a ≡ b
 same_is a b h = (bytes_eq-Decides a b).0 h
 
 words_spaced : (b : ℕ) (bs : Word) → is_space b ≡ true → line_words (b ∷ bs) ≡ line_words bs
 words_spaced b bs h = rw h refl
 
-words_trimmed : (text : Word) → line_words (trimmed text) ≡ line_words text
+pub words_trimmed : (text : Word) → line_words (trimmed text) ≡ line_words text
 words_trimmed [] = refl
 words_trimmed (b ∷ bs) = by_test (is_space b) refl (words_trimmed bs)
   where
@@ -46,7 +46,7 @@ mode_back w m is = by_update (same w (codes "update")) refl is
     by_update true one is = same_is w (codes "update") one ∙ ap mode_word (same_Some Update m is)
     by_update false one is = by_invalidate (same w (codes "invalidate")) refl is
 
-behind_is : (front text rest : Word) → behind front text ≡ Some rest → text ≡ front ++ rest
+pub behind_is : (front text rest : Word) → behind front text ≡ Some rest → text ≡ front ++ rest
 behind_is front text rest is = by_test (same (take (length front) text) front) refl is
   where
     by_test : (t : Bool) → same (take (length front) text) front ≡ t → (if t then Some (drop (length front) text) else None) ≡ Some rest → text ≡ front ++ rest
@@ -57,7 +57,7 @@ behind_is front text rest is = by_test (same (take (length front) text) front) r
 
 module _ (feed : Feed) (text : Word) where
   abbrev Either : Command → Type 0
-  Either c = IsInTable feed text c ⊎ (c ≡ command.NotBuilt)
+  Either c = IsInTable feed text c ⊎ (c ≡ command.Bad)
 
   node_case : (a b c : Word) → line_words text ≡ codes "node" ∷ (a ∷ (b ∷ (c ∷ []))) →
       (x y : Option ℕ) (z : Option Mode) → number_of a ≡ x → number_of b ≡ y → mode_of c ≡ z → Either (node_command x y z)
@@ -69,7 +69,7 @@ module _ (feed : Feed) (text : Word) where
       here : line_words text ≡ codes "node" ∷ (decimal n ∷ (decimal k ∷ (mode_word m ∷ [])))
       here = words ∙ (λ i. codes "node" ∷ (((numbers_are_decimal a n).0 p).0 i ∷ (((numbers_are_decimal b k).0 q).0 i ∷ (mode_back c m r i ∷ []))))
 
-      by_test : (t : Bool) → (is_node n && is_capacity k) ≡ t → Either (if t then command.Node n k m else command.NotBuilt)
+      by_test : (t : Bool) → (is_node n && is_capacity k) ≡ t → Either (if t then command.Node n k m else command.Bad)
       by_test true is = inl (node n k m (and_parts _ _ is).0 (and_parts _ _ is).1 here)
       by_test false is = inr refl
 
@@ -82,7 +82,7 @@ module _ (feed : Feed) (text : Word) where
       here : line_words text ≡ codes "get" ∷ (decimal n ∷ (decimal pass ∷ (path ∷ [])))
       here = words ∙ (λ i. codes "get" ∷ (((numbers_are_decimal a n).0 p).0 i ∷ (((numbers_are_decimal b pass).0 q).0 i ∷ (path ∷ []))))
 
-      by_test : (t : Bool) → (is_node n && is_path path) ≡ t → Either (if t then command.Get n pass path else command.NotBuilt)
+      by_test : (t : Bool) → (is_node n && is_path path) ≡ t → Either (if t then command.Get n pass path else command.Bad)
       by_test true is = inl (get n pass path (and_parts _ _ is).0 ((numbers_are_decimal b pass).0 q).1 (and_parts _ _ is).1 here)
       by_test false is = inr refl
 
@@ -90,7 +90,7 @@ module _ (feed : Feed) (text : Word) where
   deliver_case a words None p = inr refl
   deliver_case a words (Some n) p = by_test (is_node n) refl
     where
-      by_test : (t : Bool) → is_node n ≡ t → Either (if t then command.Deliver n else command.NotBuilt)
+      by_test : (t : Bool) → is_node n ≡ t → Either (if t then command.Deliver n else command.Bad)
       by_test true is = inl (deliver n is (words ∙ (λ i. codes "deliver" ∷ (((numbers_are_decimal a n).0 p).0 i ∷ []))))
       by_test false is = inr refl
 
@@ -101,40 +101,62 @@ module _ (feed : Feed) (text : Word) where
       here : line_words text ≡ codes "evict" ∷ (decimal n ∷ (path ∷ []))
       here = words ∙ (λ i. codes "evict" ∷ (((numbers_are_decimal a n).0 p).0 i ∷ (path ∷ [])))
 
-      by_test : (t : Bool) → (is_node n && is_path path) ≡ t → Either (if t then command.Evict n path else command.NotBuilt)
+      by_test : (t : Bool) → (is_node n && is_path path) ≡ t → Either (if t then command.Evict n path else command.Bad)
       by_test true is = inl (evict n path (and_parts _ _ is).0 (and_parts _ _ is).1 here)
       by_test false is = inr refl
 
-  one_case : (word : Word) → line_words text ≡ word ∷ [] → Either (one_word word)
-  one_case word words = by_test (same word (codes "settle")) refl
+  slot_case : (word a : Word) → comes_with_slot word ≡ true → line_words text ≡ word ∷ (a ∷ []) → (x : Option ℕ) → number_of a ≡ x → Either (slot_command x)
+  slot_case word a comes words None p = inr refl
+  slot_case word a comes words (Some n) p = by_test (is_slot n) refl
     where
-      by_test : (t : Bool) → same word (codes "settle") ≡ t → Either (if t then command.Settle else command.NotBuilt)
-      by_test true is = inl (settle (words ∙ ap (λ w. w ∷ []) (same_is word (codes "settle") is)))
+      by_test : (t : Bool) → is_slot n ≡ t → Either (if t then command.NotBuilt else command.Bad)
+      by_test true is = inl (with_slot word n comes is (words ∙ (λ i. word ∷ (((numbers_are_decimal a n).0 p).0 i ∷ []))))
       by_test false is = inr refl
 
-  two_case : (word a : Word) → line_words text ≡ word ∷ (a ∷ []) → Either (two_words word a)
-  two_case word a words = by_test (same word (codes "deliver")) refl
+  one_case : (word : Word) → line_words text ≡ word ∷ [] → Either (one_word word)
+  one_case word words = by_settle (same word (codes "settle")) refl
     where
-      by_test : (t : Bool) → same word (codes "deliver") ≡ t → Either (if t then deliver_command (number_of a) else command.NotBuilt)
-      by_test true is = deliver_case a (words ∙ ap (λ w. w ∷ (a ∷ [])) (same_is word (codes "deliver") is)) (number_of a) refl
-      by_test false is = inr refl
+      by_alone : (t : Bool) → comes_alone word ≡ t → Either (if t then command.NotBuilt else command.Bad)
+      by_alone true is = inl (alone word is words)
+      by_alone false is = inr refl
+
+      by_status : (t : Bool) → same word (codes "status") ≡ t → Either (if t then command.Status else (if comes_alone word then command.NotBuilt else command.Bad))
+      by_status true is = inl (status (words ∙ ap (λ w. w ∷ []) (same_is word (codes "status") is)))
+      by_status false is = by_alone (comes_alone word) refl
+
+      by_settle : (t : Bool) → same word (codes "settle") ≡ t →
+          Either (if t then command.Settle else (if same word (codes "status") then command.Status else (if comes_alone word then command.NotBuilt else command.Bad)))
+      by_settle true is = inl (settle (words ∙ ap (λ w. w ∷ []) (same_is word (codes "settle") is)))
+      by_settle false is = by_status (same word (codes "status")) refl
+
+  two_case : (word a : Word) → line_words text ≡ word ∷ (a ∷ []) → Either (two_words word a)
+  two_case word a words = by_deliver (same word (codes "deliver")) refl
+    where
+      by_slot : (t : Bool) → comes_with_slot word ≡ t → Either (if t then slot_command (number_of a) else command.Bad)
+      by_slot true is = slot_case word a is words (number_of a) refl
+      by_slot false is = inr refl
+
+      by_deliver : (t : Bool) → same word (codes "deliver") ≡ t →
+          Either (if t then deliver_command (number_of a) else (if comes_with_slot word then slot_command (number_of a) else command.Bad))
+      by_deliver true is = deliver_case a (words ∙ ap (λ w. w ∷ (a ∷ [])) (same_is word (codes "deliver") is)) (number_of a) refl
+      by_deliver false is = by_slot (comes_with_slot word) refl
 
   three_case : (word a b : Word) → line_words text ≡ word ∷ (a ∷ (b ∷ [])) → Either (three_words word a b)
   three_case word a b words = by_test (same word (codes "evict")) refl
     where
-      by_test : (t : Bool) → same word (codes "evict") ≡ t → Either (if t then evict_command (number_of a) b else command.NotBuilt)
+      by_test : (t : Bool) → same word (codes "evict") ≡ t → Either (if t then evict_command (number_of a) b else command.Bad)
       by_test true is = evict_case a b (words ∙ ap (λ w. w ∷ (a ∷ (b ∷ []))) (same_is word (codes "evict") is)) (number_of a) refl
       by_test false is = inr refl
 
   four_case : (word a b c : Word) → line_words text ≡ word ∷ (a ∷ (b ∷ (c ∷ []))) → Either (four_words word a b c)
   four_case word a b c words = by_node (same word (codes "node")) refl
     where
-      by_get : (t : Bool) → same word (codes "get") ≡ t → Either (if t then get_command (number_of a) (number_of b) c else command.NotBuilt)
+      by_get : (t : Bool) → same word (codes "get") ≡ t → Either (if t then get_command (number_of a) (number_of b) c else command.Bad)
       by_get true is = get_case a b c (words ∙ ap (λ w. w ∷ (a ∷ (b ∷ (c ∷ [])))) (same_is word (codes "get") is)) (number_of a) (number_of b) refl refl
       by_get false is = inr refl
 
       by_node : (t : Bool) → same word (codes "node") ≡ t →
-          Either (if t then node_command (number_of a) (number_of b) (mode_of c) else (if same word (codes "get") then get_command (number_of a) (number_of b) c else command.NotBuilt))
+          Either (if t then node_command (number_of a) (number_of b) (mode_of c) else (if same word (codes "get") then get_command (number_of a) (number_of b) c else command.Bad))
       by_node true is = node_case a b c (words ∙ ap (λ w. w ∷ (a ∷ (b ∷ (c ∷ [])))) (same_is word (codes "node") is)) (number_of a) (number_of b) (mode_of c) refl refl refl
       by_node false is = by_get (same word (codes "get")) refl
 

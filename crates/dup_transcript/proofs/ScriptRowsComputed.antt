@@ -54,7 +54,7 @@ use Rattle.dup_transcript.specs.Turns.{PlaysFrom, Standing, Turns, first_standin
 use Rattle.dup_transcript.specs.declared.command.Command.TheVariants as command
 use Rattle.dup_transcript.specs.declared.task.Task.TheVariants.{Play}
 use Rattle.dup_transcript.proofs.MachineAnswers.{starts_ready}
-use Rattle.dup_transcript.proofs.MachineTurns.{PutsCache, SettlesTo, first_stands, get_no_node, new_cache, plays_nothing, plays_turn, turns_commit, turns_deliver, turns_evict, turns_get, turns_made, turns_not_built, turns_settle, turns_taken}
+use Rattle.dup_transcript.proofs.MachineTurns.{PutsCache, SettlesTo, first_stands, get_no_node, new_cache, plays_nothing, plays_turn, turns_commit, turns_deliver, turns_evict, turns_get, turns_made, turns_bad, turns_settle, turns_taken}
 use Rattle.dup_transcript.proofs.PressRowsComputed.{events_good}
 
 abbrev commit : Commit
@@ -270,7 +270,7 @@ later =
     (record { asks = command.Get 1 0 path; text = line (codes "found 1 1 miss 13") ++ line (codes "<h1>100m</h1>"); leads = stands filled } ∷
     (record { asks = command.Get 1 0 absent; text = line (codes "absent 1"); leads = stands filled } ∷
     (record { asks = command.Get 2 0 (codes "/"); text = line (codes "no node 2"); leads = stands filled } ∷
-    (record { asks = command.NotBuilt; text = line (codes "not built 15"); leads = stands filled } ∷
+    (record { asks = command.Bad; text = line (codes "bad line 15"); leads = stands filled } ∷
     (record { asks = command.Node 1 4 Update; text = line (codes "node 1 taken"); leads = stands filled } ∷
     (record { asks = command.Get 1 0 path; text = line (codes "found 1 1 hit 13") ++ line (codes "<h1>100m</h1>"); leads = stands filled } ∷
     (record { asks = command.Evict 1 path; text = line (codes "evicted"); leads = stands emptied } ∷
@@ -289,7 +289,7 @@ later_turn = (
       (
         get_no_node events_site usual_limits (stands filled) 14 2 0 (codes "/") refl,
         (
-          turns_not_built events_site usual_limits (stands filled) 15,
+          turns_bad events_site usual_limits (stands filled) 15,
           (
             turns_taken events_site usual_limits (stands filled) 16 1 4 Update filled refl,
             (

@@ -36,6 +36,8 @@ module _ (site : Parts) (limits : Limits) (earlier : HistoriesEmbedEarlier site)
   leaves (command.BadFeed why) w number kept events said r stands = tt
   leaves command.Blank w number kept events said r stands = tt
   leaves command.NotBuilt w number kept events said r stands = tt
+  leaves command.Bad w number kept events said r stands = tt
+  leaves command.Status w number kept events said r stands = tt
 
   -- the events of commands, one after another
   collect : (cs : List Command) (kept : List Bool) (before : List Event) (number : ℕ) (last out : Word) → IsReady site (run site limits before) →

@@ -12,9 +12,9 @@ use Rattle.dup_model.specs.Journal.{Limits}
 use Rattle.dup_model.specs.Versions.{IsHistory}
 use Rattle.dup_machine.specs.Run.{run, step}
 use Rattle.dup_machine.specs.Settle.{Settles}
-use Rattle.dup_machine.specs.Status.{NothingPending}
+use Rattle.dup_machine.specs.Status.{NothingPending, status}
 use Rattle.dup_machine.specs.Until.{LastTold}
-use Rattle.dup_transcript.specs.Texts.{bad_feed_text, not_built_text, settled_text, told_text}
+use Rattle.dup_transcript.specs.Texts.{bad_feed_text, bad_line_text, not_built_text, settled_text, status_text, told_text}
 use Rattle.dup_machine.specs.World.{Counts, Event, Told, World, first_world}
 use Rattle.dup_machine.specs.World.Event.{Comes, Deliver, Evict, Node, Request}
 use Rattle.dup_machine.specs.World.Told.{Found}
@@ -52,10 +52,13 @@ StandsFor site limits w number (command.Get node pass path) kept events out =
     Happens site limits w (Request node pass path kept) kept events out
 StandsFor site limits w number (command.Evict node path) kept events out =
     Happens site limits w (Evict node path) kept events out
+StandsFor site limits w number command.Status kept events out =
+    IsSaid (status_text (status site w)) kept events out
 StandsFor site limits w number (command.BadFeed why) kept events out = IsSaid (bad_feed_text why) kept events out
 StandsFor site limits w number command.Blank kept events out = IsSaid [] kept events out
 StandsFor site limits w number command.NotBuilt kept events out =
     IsSaid (not_built_text number) kept events out
+StandsFor site limits w number command.Bad kept events out = IsSaid (bad_line_text number) kept events out
 
 -- what may be written for commands behind these events and so many lines, where this is written last, and for
 -- each command the page that it misses is kept or not

@@ -47,7 +47,7 @@ output = text_of (
     codes "<h1>100m</h1>" ∷
     codes "absent 1" ∷
     codes "no node 2" ∷
-    codes "not built 15" ∷
+    codes "bad line 15" ∷
     codes "node 1 taken" ∷
     codes "found 1 1 hit 13" ∷
     codes "<h1>100m</h1>" ∷

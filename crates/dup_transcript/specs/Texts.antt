@@ -1,5 +1,5 @@
 -- What is written of the machine's replies.
-use Rattle.std.specs.Prelude.{ℕ, true, false, [], ◌++◌, codes, length}
+use Rattle.std.specs.Prelude.{ℕ, Bool, true, false, [], ◌++◌, Option, Some, None, codes, length}
 use Rattle.std.specs.Fmt.{decimal}
 use Rattle.dup_names.specs.Lines.{line}
 use Rattle.dup_names.specs.Words.{Word}
@@ -11,6 +11,7 @@ use Rattle.dup_transcript.specs.BadSites.{rule_text}
 use Rattle.dup_model.specs.Answers.{How}
 use Rattle.dup_model.specs.Answers.How.{Hit, Miss, MissUnkept}
 use Rattle.dup_model.specs.Editions.{Page}
+use Rattle.dup_machine.specs.Status.{Status}
 use Rattle.dup_machine.specs.World.{Counts, Told}
 use Rattle.dup_machine.specs.World.Told.{Committed, Refused, NodeMade, NodeTaken, NoNode, Delivered, Found, Absent, Ahead, Evicted}
 
@@ -28,11 +29,16 @@ how_word Hit = codes "hit"
 how_word Miss = codes "miss"
 how_word MissUnkept = codes "unkept"
 
--- a page of an edition, and how it was found: a line, and its bytes
+-- a page of an edition by its version, how it was found, and how many bytes it has
+abbrev pub found_line : ℕ → ℕ → How → ℕ → Word
+found_line edition version how bytes =
+    line (codes "found " ++ decimal edition ++ codes " " ++ decimal version ++ codes " " ++ how_word how
+    ++ codes " " ++ decimal bytes)
+
+-- the line, and the page's bytes
 abbrev pub found_text : ℕ → Page → How → Word
 found_text edition page how =
-    line (codes "found " ++ decimal edition ++ codes " " ++ decimal page.version ++ codes " " ++ how_word how
-    ++ codes " " ++ decimal (length page.look.bytes)) ++ line page.look.bytes
+    found_line edition page.version how (length page.look.bytes) ++ line page.look.bytes
 
 -- what is written of one reply, of those that a script meets today
 abbrev pub told_text : Told → Word
@@ -59,6 +65,21 @@ settled_text edition bundles counts =
     ++ codes " expanded " ++ decimal counts.expanded ++ codes " joined " ++ decimal counts.joined
     ++ codes " kept " ++ decimal counts.kept)
 
+abbrev pub version_word : Option ℕ → Word
+version_word (Some version) = decimal version
+version_word None = codes "-"
+
+abbrev pub yes_or_no : Bool → Word
+yes_or_no true = codes "yes"
+yes_or_no false = codes "no"
+
+-- what is written of a status
+abbrev pub status_text : Status → Word
+status_text s =
+    line (codes "version " ++ decimal s.version ++ codes " work " ++ version_word s.work
+    ++ codes " target " ++ version_word s.target ++ codes " edition " ++ decimal s.edition
+    ++ codes " pending " ++ yes_or_no s.pending)
+
 -- what is written of a feed message that says no commit; want of memory is none of its causes
 abbrev pub bad_feed_text : FeedRefusal → Word
 bad_feed_text NotJson = line (codes "refused not json")
@@ -70,6 +91,6 @@ bad_feed_text NoMemory = []
 abbrev pub bad_line_text : ℕ → Word
 bad_line_text number = line (codes "bad line " ++ decimal number)
 
--- what is written of a line that isn't built
+-- what is written of a command that isn't built
 abbrev pub not_built_text : ℕ → Word
 not_built_text number = line (codes "not built " ++ decimal number)

@@ -8,7 +8,7 @@ ghost use Rattle.dup_transcript.specs.MachinePlays.{
   SettlesLeaveNothing,
   StartsReady,
 };
-ghost use Rattle.dup_transcript.specs.OnlyTable.{OnlyTheTable};
+ghost use Rattle.dup_transcript.specs.OnlyTable.{OnlyTheTable, OthersAreBad};
 ghost use Rattle.dup_transcript.specs.Numbers.{NumbersAreDecimal};
 ghost use Rattle.dup_transcript.specs.ScriptRuns.{TranscriptsAreRuns};
 ghost use Rattle.dup_transcript.specs.Transcript.{OtherTasksHaveOne, TranscriptsAreOne, TranscriptsExist, TranscriptsTellKept};
@@ -25,10 +25,11 @@ pub fn numbers_law()
     ensures { NumbersAreDecimal }
 {}
 
-/// What each form of line commands, and that every other line isn't built.
+/// What each form of line commands, that every other line is bad, and that no bad line is in the table.
 pub fn commands_law()
     ensures each { EachIsRead }
     ensures others { OnlyTheTable }
+    ensures bad { OthersAreBad }
 {}
 
 /// Each input has a transcript, and one for each choice of the pages that are kept; what is written tells
