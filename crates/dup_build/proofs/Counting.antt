@@ -1,10 +1,10 @@
 -- How many of the objects that an object embeds have no look, as a work goes on.
 use Rattle.std.proofs.Common.{◌≡◌, ℕ, ◌+◌, ◌-◌, ◌<◌, zero, suc, get_or, take, Bool, true, false, not, cond, ◌||◌, ◌&&◌, List, [], ◌∷◌, ◌++◌, Option, Some, None, length, refl, sym, ap, subst, ◌∙◌, arith}
 use Rattle.std.specs.Prelude.{nat_eq}
-use Rattle.std.specs.List.{filter, flat_map, fold, list_all}
-use Rattle.std.specs.Option.{option_map, unwrap_or}
+use Rattle.std.specs.List.{flat_map, fold, list_all}
+use Rattle.std.specs.Option.{unwrap_or}
 use Rattle.std.proofs.Math.Dec.{eqb-suc-zero}
-use Rattle.std.proofs.lemmas.Bool.{true≢false, cases_Bool, or_cases, or_left}
+use Rattle.std.proofs.lemmas.Bool.{true≢false, or_left}
 use Rattle.dup_names.specs.Order.{obj_cmp}
 use Rattle.dup_names.specs.Words.{in_order}
 use Rattle.dup_names.specs.declared.object.Obj.{Obj}

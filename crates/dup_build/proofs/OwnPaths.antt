@@ -1,5 +1,5 @@
 -- An object that a page of a good site shows has that page's path.
-use Rattle.std.proofs.Common.{◌≡◌, ℕ, suc, arith, ◌+◌, Bool, true, false, not, cond, ◌||◌, List, [], ◌∷◌, ◌++◌, map, Option, Some, None, refl, sym, ap, subst, ◌∙◌, append_assoc}
+use Rattle.std.proofs.Common.{◌≡◌, suc, arith, ◌+◌, Bool, true, false, not, cond, List, [], ◌∷◌, ◌++◌, map, Option, Some, None, refl, sym, ap, subst, ◌∙◌, append_assoc}
 use Rattle.std.specs.Prelude.{is_some}
 use Rattle.std.specs.List.{AllByRecursion, find, flat_map, list_any, slice_get}
 use Rattle.std.specs.Option.{option_map}
@@ -10,8 +10,7 @@ use Rattle.std.proofs.lemmas.Option.{none-some, same_Some}
 use Rattle.std.proofs.lemmas.Slice.Eq.{bytes_eq-Decides}
 use Rattle.dup_names.specs.Order.{text_cmp}
 use Rattle.dup_names.specs.declared.object.Obj.{Obj}
-use Rattle.dup_names.specs.declared.value.Look.{Look}
-use Rattle.dup_names.specs.Words.{Path, Word, in_order, place, same}
+use Rattle.dup_names.specs.Words.{Path, Word, place, same}
 use Rattle.dup_template.specs.Frame.{Head, frame_of, heads_of}
 use Rattle.dup_template.specs.Good.{IsGood, at_most, declared, find_template, first_from, page_fault, shown_by, shows_fault, template_names, unless}
 use Rattle.dup_template.specs.Paths.{path_at, path_by, path_in, rule_of}
@@ -21,13 +20,11 @@ use Rattle.dup_template.specs.declared.site.PageRule.TheVariants.{Fixed, Family}
 use Rattle.dup_template.specs.declared.site.Parts.{Parts}
 use Rattle.dup_template.specs.declared.site.TemplatePart.{TemplatePart}
 use Rattle.dup_template.proofs.GoodParts.{good-parts, not-not, or-none, unless-none}
-use Rattle.dup_model.specs.Content.{Content, IsOf}
-use Rattle.dup_model.specs.Looks.{look}
-use Rattle.dup_model.specs.Names.{key_for, kind_at, kind_named, kind_of, object_of, template_at}
-use Rattle.dup_model.specs.Pages.{keys_of, page_looks, pages, pages_of}
+use Rattle.dup_model.specs.Content.{Content}
+use Rattle.dup_model.specs.Names.{key_for, kind_at, kind_of, template_at}
+use Rattle.dup_model.specs.Pages.{keys_of, pages, pages_of}
 use Rattle.dup_model.proofs.EachMark.{all_append}
 use Rattle.dup_model.proofs.Ordering.{all_in_order}
-use Rattle.dup_build.specs.Spare.{HaveOwnPaths}
 use Rattle.dup_build.proofs.Touching.{same_path}
 
 same_itself : (w : Word) → same w w ≡ true

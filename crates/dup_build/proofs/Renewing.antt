@@ -41,7 +41,7 @@ use Rattle.dup_build.specs.declared.spare.Spare.{Spare}
 use Rattle.dup_build.proofs.OwnPaths.{page_own}
 use Rattle.dup_build.proofs.Rising.{page_looks_rise}
 use Rattle.dup_build.proofs.Showing.{look_found, pages_looked}
-use Rattle.dup_build.proofs.Touching.{has_more, or_none, or_true, same_path}
+use Rattle.dup_build.proofs.Touching.{or_none, or_true, same_path}
 
 abbrev at : Path → List (Path × Look) → Option Look
 at p es = fin.find text_cmp p es

@@ -1,10 +1,9 @@
 -- Where a walk may start.
-use Rattle.std.proofs.Common.{◌≡◌, Bool, true, false, not, ◌||◌, ◌&&◌, List, [], ◌++◌, inl, inr, refl, sym, ap, ◌∙◌}
+use Rattle.std.proofs.Common.{List, ◌++◌, inl, inr, sym, ◌∙◌}
 use Rattle.std.specs.List.{filter}
 use Rattle.std.proofs.lemmas.Bool.{true≢false, and_from, and_parts, cases_Bool, or_left}
 use Rattle.dup_names.specs.declared.object.Obj.{Obj}
 use Rattle.dup_names.specs.Objects.{same_obj, is_in}
-use Rattle.dup_model.specs.Touched.{without}
 use Rattle.dup_model.proofs.Objects.{in_filter}
 use Rattle.dup_model.proofs.Ordering.{any_append}
 use Rattle.dup_model.proofs.Reached.{or_right}

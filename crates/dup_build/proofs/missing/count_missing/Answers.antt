@@ -1,6 +1,5 @@
-use Rattle.std.proofs.Common.{◌≡◌, cond, ℕ, true, false, Some, length, refl, sym, ap, ◌∙◌, take}
+use Rattle.std.proofs.Common.{◌≡◌, cond, ℕ, Some, length, refl, sym, ap, ◌∙◌}
 use Rattle.std.proofs.lemmas.Bool.{true≢false}
-use Rattle.std.proofs.lemmas.List.{take_all}
 use Rattle.dup_names.specs.declared.object.Obj.{Obj}
 use Rattle.dup_names.specs.Objects.{is_in, same_obj}
 use Rattle.dup_model.specs.Touched.{without}

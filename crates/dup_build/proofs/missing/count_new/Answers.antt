@@ -1,7 +1,7 @@
-use Rattle.std.proofs.Common.{◌≡◌, false, cond, [], Some, length, ap, ◌∙◌}
+use Rattle.std.proofs.Common.{◌≡◌, cond, Some, length, ap, ◌∙◌}
 use Rattle.std.proofs.lemmas.Result.{on_ok_weaker}
 use Rattle.dup_names.proofs.ObjectOrder.{obj_itself}
-use Rattle.dup_names.specs.Objects.{is_in, same_obj}
+use Rattle.dup_names.specs.Objects.{is_in}
 use Rattle.dup_model.specs.Touched.{without}
 use Rattle.dup_sets.specs.Entries.{at, objs}
 use Rattle.dup_sets.proofs.Sets.{without_none}

@@ -1,4 +1,4 @@
-use Rattle.std.proofs.Common.{cond, sym, ap, subst, ◌∙◌, take, refl}
+use Rattle.std.proofs.Common.{cond, ap, subst, ◌∙◌}
 use Rattle.std.proofs.lemmas.List.{take_all}
 use Rattle.dup_names.specs.Objects.{is_in}
 use Rattle.dup_model.proofs.Objects.{IsOnce, once_in_order}

@@ -1,10 +1,9 @@
-use Rattle.std.proofs.Common.{◌≡◌, true, false, [], ◌∷◌, Option, Some, None, sym, ap, ◌∙◌}
+use Rattle.std.proofs.Common.{◌≡◌, [], ◌∷◌, Some, sym, ap, ◌∙◌}
 use Rattle.std.specs.FinMap as fin
 use Rattle.std.specs.Cmp.Lexicographic.{nat_list_cmp_total}
 use Rattle.dup_names.specs.Order.{text_cmp}
 use Rattle.dup_names.specs.declared.value.Look.{Look}
 use Rattle.dup_names.specs.Objects.{same_obj}
-use Rattle.dup_template.specs.Paths.{path_at}
 use Rattle.dup_edition.proofs.Places.{absent_gap, found_at}
 use Rattle.dup_build.specs.Spare.{is_of_one}
 use Rattle.dup_build.specs.Targets.{looks_by_path}

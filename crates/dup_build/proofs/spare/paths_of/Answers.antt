@@ -1,12 +1,9 @@
-use Rattle.std.proofs.Common.{◌≡◌, ◌+◌, true, [], ◌∷◌, ◌++◌, take, None, Some, sym, ap, subst, ◌∙◌}
+use Rattle.std.proofs.Common.{◌≡◌, ◌+◌, [], ◌∷◌, ◌++◌, take, sym, ap, subst, ◌∙◌}
 use Rattle.std.specs.FinMap as fin
 use Rattle.std.specs.List.Sorted.{IsStrictlySortedBy}
 use Rattle.std.proofs.lemmas.Option.{none-some}
 use Rattle.dup_names.specs.Order.{text_cmp}
-use Rattle.dup_names.specs.Words.{Path}
-use Rattle.dup_names.specs.declared.object.Obj.{Obj}
 use Rattle.dup_model.specs.Editions.{has}
-use Rattle.dup_build.specs.Spare.{is_of_one}
 use Rattle.dup_build.specs.Targets.{looks_by_path}
 use Rattle.dup_build.proofs.Renewing.{none_more, one_more, taken_more}
 use Rattle.dup_build.proofs.spare.paths_of.Goals.{in-Some+in_ok-insert, in_default}

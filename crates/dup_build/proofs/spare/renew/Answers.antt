@@ -1,6 +1,6 @@
-use Rattle.std.proofs.Common.{◌≡◌, ◌+◌, [], ◌∷◌, ◌++◌, take}
+use Rattle.std.proofs.Common.{◌+◌, take}
 use Rattle.dup_build.specs.Targets.{looks_by_path}
-use Rattle.dup_build.proofs.Renewing.{none_renewed, renewed_looked, renewed_more, taken_more}
+use Rattle.dup_build.proofs.Renewing.{renewed_looked, renewed_more, taken_more}
 use Rattle.dup_build.proofs.spare.renew.Goals as goal
 
 pub renew_one-requires-clause-looked : goal.renew_one-requires-clause-looked

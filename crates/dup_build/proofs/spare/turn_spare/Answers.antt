@@ -1,11 +1,9 @@
 use Rattle.std.proofs.Math.Seq.{take-append_seam}
-use Rattle.std.proofs.Common.{◌≡◌, ◌++◌, [], List, drop, length, take, sym, ap, subst, ◌∙◌}
+use Rattle.std.proofs.Common.{◌≡◌, ◌++◌, List, drop, length, take, sym, ap, subst, ◌∙◌}
 use Rattle.dup_names.specs.Words.{Path}
 use Rattle.dup_template.specs.Good.{IsGood}
-use Rattle.dup_model.specs.Content.{Content, IsOf}
-use Rattle.dup_model.specs.Editions.{has}
-use Rattle.dup_model.specs.Pages.{pages}
-use Rattle.dup_build.specs.Spare.{AreRenewed, HaveOwnPaths, ShowLooked, is_of_one, objs_by_path}
+use Rattle.dup_model.specs.Content.{IsOf}
+use Rattle.dup_build.specs.Spare.{AreRenewed, HaveOwnPaths, ShowLooked}
 use Rattle.dup_build.specs.Targets.{looks_by_path}
 use Rattle.dup_build.proofs.Renewing.{listed_looked, listed_own, spare_serves, told_touched}
 use Rattle.dup_build.proofs.spare.turn_spare.Goals as goal

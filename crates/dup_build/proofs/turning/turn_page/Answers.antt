@@ -1,4 +1,4 @@
-use Rattle.std.proofs.Common.{◌≡◌, ◌&&◌, Bool, true, false, not, cond, ◌∷◌, ◌++◌, [], sym, ap, ◌∙◌}
+use Rattle.std.proofs.Common.{◌≡◌, sym, ap, ◌∙◌}
 use Rattle.dup_names.proofs.ObjectOrder.{obj_same}
 use Rattle.dup_names.specs.declared.value.Look.{Look}
 use Rattle.dup_names.specs.Objects.{is_in, same_obj}

@@ -1,16 +1,12 @@
-use Rattle.std.proofs.Common.{◌≡◌, ◌+◌, ◌<◌, ◌⊎◌, inl, inr, ◌++◌, List, [], drop, length, map, take, refl, sym, ap, ◌∙◌, subst, arith}
-use Rattle.std.specs.FinMap.Entries.{is_sorted}
+use Rattle.std.proofs.Common.{◌≡◌, ◌⊎◌, inl, inr, ◌++◌, List, [], drop, map, refl, sym, ap, ◌∙◌, subst, arith}
 use Rattle.std.specs.declared.alloc.Global.{Global}
 use Rattle.std.specs.declared.sync.Arc.{Arc}
-use Rattle.std.proofs.lemmas.List.Elements.{All-drop, All-get_or}
-use Rattle.dup_names.specs.Order.{text_cmp}
 use Rattle.dup_names.specs.Words.{Path}
 use Rattle.dup_names.specs.declared.object.Obj.{Obj}
 use Rattle.dup_names.specs.declared.value.Look.{Look}
-use Rattle.dup_names.specs.Objects.{is_in}
 use Rattle.dup_model.specs.Looks.{look}
 use Rattle.dup_model.specs.Pages.{page_looks}
-use Rattle.dup_build.specs.Paths.{AreLooked, AreTouched, looks_shown}
+use Rattle.dup_build.specs.Paths.{AreTouched, looks_shown}
 use Rattle.dup_build.specs.Targets.{looks_by_path}
 use Rattle.dup_build.proofs.Pages.{no_more, no_rest, paths_by_path, paths_shown, rest_of, step_both, step_new, step_old, turned_all, turned_push}
 use Rattle.dup_build.proofs.Ordered.{Rise, rise_paths}

@@ -5,7 +5,6 @@ use Rattle.dup_model.specs.Found.{waiting}
 use Rattle.dup_machine.specs.Works.{unjoined}
 use Rattle.dup_build.specs.Build.{work_in}
 use Rattle.dup_build.specs.Built.{Built, closed, finished, unjoined_by, waiting_by}
-use Rattle.dup_build.specs.Closing.{CanClose}
 use Rattle.dup_build.proofs.Builds.{finished_open, some_wait, some_unjoined, no_one}
 use Rattle.dup_build.proofs.Failing.{on_err}
 use Rattle.std.specs.Prelude.{is_some}

@@ -9,7 +9,7 @@ use Rattle.dup_names.specs.Objects.{is_in}
 use Rattle.dup_model.specs.Touched.{without}
 use Rattle.dup_build.specs.Build.{work_in}
 use Rattle.dup_build.specs.Paths.{AreTouched, IsCurrent, SameElsewhere, looks_in}
-use Rattle.dup_build.specs.Targets.{looks_by_path, looks_of, pages_in}
+use Rattle.dup_build.specs.Targets.{looks_by_path, pages_in}
 use Rattle.dup_build.proofs.Showing.{current_elsewhere}
 use Rattle.dup_build.proofs.Rising.{page_looks_rise}
 use Rattle.dup_build.specs.Built.{Built, once_by, unjoined_by}

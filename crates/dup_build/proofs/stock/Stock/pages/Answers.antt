@@ -1,5 +1,4 @@
-use Rattle.std.proofs.Common.{◌≡◌, sym, ap, subst, ◌∙◌}
-use Rattle.dup_model.specs.Content.{Content}
+use Rattle.std.proofs.Common.{sym, ap, subst, ◌∙◌}
 use Rattle.dup_model.specs.Pages as model
 use Rattle.dup_sets.specs.Entries.{objs}
 use Rattle.dup_build.specs.Stocked.{Stocked, unjoined_in}
