@@ -3,4 +3,4 @@ use Rattle.dup_main.proofs.Acting.{status_acts}
 use Rattle.dup_main.proofs.session.Session.status.Goals as goal
 
 pub returns : goal.returns
-returns c = status_acts c.args.self.now c.status.result c.into_bytes.result.items c.status.ensures (search rules)
+returns c = status_acts c.args.self.now c.status-status.result c.into_bytes.result.items c.status-status.ensures (search rules)
