@@ -1,5 +1,5 @@
 -- Targets of versions, and what stays between them and an edition.
-use Rattle.std.proofs.Common.{◌≡◌, ℕ, ◌≤◌, List, [], ◌∷◌, ◌++◌, Option, Some, None, length, take, refl, sym, ap, subst, ◌∙◌}
+use Rattle.std.proofs.Common.{◌≡◌, ℕ, ◌≤◌, List, [], ◌∷◌, ◌++◌, Option, Some, None, length, refl, sym, ap, ◌∙◌}
 use Rattle.std.specs.Prelude.{IsTrue}
 use Rattle.std.proofs.lemmas.Cmp.{nat_list_cmp_total}
 use Rattle.std.specs.FinMap as fin
@@ -11,7 +11,7 @@ use Rattle.dup_names.specs.Words.{Path}
 use Rattle.dup_names.specs.declared.value.Look.{Look}
 use Rattle.dup_template.specs.declared.site.Parts.{Parts}
 use Rattle.dup_model.specs.Commits.{Commit}
-use Rattle.dup_model.specs.Editions.{Bundle, bundle_of, has}
+use Rattle.dup_model.specs.Editions.{Bundle, bundle_of}
 use Rattle.dup_model.specs.Pages.{page_looks, target}
 use Rattle.dup_model.specs.Versions.{content, version}
 use Rattle.dup_machine.specs.Presses.{target_by, version_of}

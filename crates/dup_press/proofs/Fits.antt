@@ -9,7 +9,6 @@ use Rattle.dup_model.specs.Editions.{Bundle}
 use Rattle.dup_model.specs.Journal.{Limits}
 use Rattle.dup_model.specs.Logs.{IsGoodLog}
 use Rattle.dup_machine.specs.Press.{press_of}
-use Rattle.dup_machine.specs.Presses as presses
 use Rattle.dup_machine.specs.Presses.{Press}
 use Rattle.dup_machine.specs.Run.{step}
 use Rattle.dup_machine.specs.Timely.{IsTimely}
@@ -18,7 +17,6 @@ use Rattle.dup_machine.proofs.Machine.{IsFit, fit_step}
 use Rattle.dup_bundle.specs.Between.{changed_paths}
 use Rattle.dup_bundle.specs.Schedule.{IsSchedule}
 use Rattle.dup_bundle.specs.Targets.{Aim}
-use Rattle.dup_edition.specs.Logged.{Logged}
 use Rattle.dup_press.specs.Press.{AdmitsGood, IsPress, aim, logged}
 use Rattle.dup_press.specs.Worked.{Worked}
 use Rattle.dup_press.specs.Worked as worked

@@ -1,5 +1,5 @@
 -- What the laws of the machine say of a settle: how many objects are handed, what is counted, and what is left.
-use Rattle.std.proofs.Common.{◌≡◌, ℕ, ◌<◌, inl, inr, List, Option, Some, None, length, refl, sym, ap, subst, ◌∙◌}
+use Rattle.std.proofs.Common.{◌≡◌, ℕ, inl, inr, List, Some, None, length, sym, ap, subst, ◌∙◌}
 use Rattle.std.specs.List.{fold}
 use Rattle.std.specs.FinMap as fin
 use Rattle.std.proofs.lemmas.Bool.{cases_order, not-false}
@@ -13,7 +13,7 @@ use Rattle.dup_model.specs.Editions.{edition, looks, target_looks}
 use Rattle.dup_model.specs.Embeddings.{EmbedsEarlier}
 use Rattle.dup_model.specs.Journal.{Limits}
 use Rattle.dup_model.specs.Needs.{changed, same_look}
-use Rattle.dup_model.specs.Pages.{Target, live, target}
+use Rattle.dup_model.specs.Pages.{live, target}
 use Rattle.dup_model.specs.Touched.{expanded, without}
 use Rattle.dup_model.specs.Versions.{content, target_content}
 use Rattle.dup_model.proofs.Sound.{look_same}

@@ -1,9 +1,8 @@
 -- What each call of a press keeps.
-use Rattle.std.proofs.Common.{◌≡◌, ℕ, ◌≤◌, List, [], ◌∷◌, ◌++◌, Option, Some, None, length, take, refl, sym, ap, subst, ◌∙◌, arith}
-use Rattle.std.specs.Prelude.{Result, Ok, Err, IfOk, IsTrue, OnErr, OnOk}
+use Rattle.std.proofs.Common.{◌≡◌, ℕ, List, [], ◌∷◌, ◌++◌, Option, Some, None, length, take, refl, sym, ap, subst, ◌∙◌, arith}
+use Rattle.std.specs.Prelude.{Result, Ok, Err, IfOk, OnErr, OnOk}
 use Rattle.std.proofs.lemmas.Option.{none-some}
 use Rattle.std.specs.FinMap as fin
-use Rattle.std.specs.FinMap.Entries.{is_sorted}
 use Rattle.dup_names.specs.Order.{text_cmp}
 use Rattle.dup_names.specs.Words.{Path}
 use Rattle.dup_names.specs.declared.object.Item.{Item}
@@ -21,7 +20,7 @@ use Rattle.dup_model.specs.Versions.{content, version}
 use Rattle.dup_model.proofs.Histories.{version_sound}
 use Rattle.dup_model.proofs.Push.{good_empty}
 use Rattle.dup_records.specs.declared.refusal.CommitRefusal.{CommitRefusal}
-use Rattle.dup_machine.specs.Presses.{Press, begin_step, begun_version, commit_step, finish_step, hand_step, join_step, put_step, version_of}
+use Rattle.dup_machine.specs.Presses.{Press, begin_step, commit_step, finish_step, hand_step, join_step, put_step}
 use Rattle.dup_machine.specs.Press.{handed, into_slot, with_press}
 use Rattle.dup_machine.specs.Press.{press_of as press_of_world}
 use Rattle.dup_machine.specs.Timely.{IsTimely}
@@ -35,7 +34,7 @@ use Rattle.dup_build.specs.declared.answers.Put.{Put}
 use Rattle.dup_build.specs.declared.answers.Put.TheVariants as answer
 use Rattle.dup_template.specs.Frame.{Frame, frame_of}
 use Rattle.dup_build.specs.declared.answers.Closing.{Closing}
-use Rattle.dup_bundle.specs.Between.{bundle, changed_paths}
+use Rattle.dup_bundle.specs.Between.{changed_paths}
 use Rattle.dup_bundle.specs.Schedule.{IsSchedule}
 use Rattle.dup_bundle.specs.Targets.{Aim, IsSameElsewhere, aim_of}
 use Rattle.dup_bundle.proofs.Exact.{nothing_changed}

@@ -21,23 +21,22 @@ use Rattle.dup_model.specs.Pages.{Target as Pages}
 use Rattle.dup_model.proofs.BundleFacts.{bundle_none}
 use Rattle.dup_model.proofs.Lists.{after_front}
 use Rattle.dup_model.proofs.Push.{history_snoc}
-use Rattle.dup_machine.specs.Press.{press_of as press_of_world}
 use Rattle.dup_machine.specs.Presses.{Press, publish_by, publish_step}
 use Rattle.dup_machine.specs.Timely.{IsTimely}
 use Rattle.dup_machine.specs.World.{Told}
 use Rattle.dup_machine.specs.World.Event.{Publish}
 use Rattle.dup_machine.specs.World.Told.{NothingChanged, Published}
-use Rattle.dup_edition.specs.Logged.{Logged, appended}
+use Rattle.dup_edition.specs.Logged.{appended}
 use Rattle.dup_build.specs.Targets.{looks_of}
 use Rattle.dup_bundle.specs.Between.{bundle, changed_paths}
 use Rattle.dup_bundle.specs.Schedule.{IsSchedule}
-use Rattle.dup_bundle.specs.Targets.{Aim, aim_of}
+use Rattle.dup_bundle.specs.Targets.{aim_of}
 use Rattle.dup_bundle.proofs.Exact.{nothing_changed}
 use Rattle.dup_render.specs.declared.target.Target.{Target}
-use Rattle.dup_press.specs.Press.{AdmitsGood, IsPress, aim, aim_at, logged}
+use Rattle.dup_press.specs.Press.{IsPress, aim, aim_at, logged}
 use Rattle.dup_press.specs.Worked.{Worked, pages_at, press_of}
 use Rattle.dup_press.proofs.Aims.{sorted_entries}
-use Rattle.dup_press.proofs.Fits.{stays_fit, world_of}
+use Rattle.dup_press.proofs.Fits.{stays_fit}
 
 any_limits : Limits
 any_limits = record { rows = 0; commits = 0; bytes = 0 }

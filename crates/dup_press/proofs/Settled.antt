@@ -1,8 +1,7 @@
 -- What a settle has done, as events of the machine.
-use Rattle.std.proofs.Common.{◌≡◌, ℕ, ◌-◌, List, Some, None, length, sym, ap, subst, ◌∙◌}
+use Rattle.std.proofs.Common.{◌≡◌, ℕ, List, Some, None, length, sym, ap, subst, ◌∙◌}
 use Rattle.std.specs.FinMap as fin
 use Rattle.dup_template.specs.declared.site.Parts.{Parts}
-use Rattle.dup_model.specs.Commits.{Commit}
 use Rattle.dup_model.specs.Editions.{Bundle}
 use Rattle.dup_model.specs.Journal.{Limits}
 use Rattle.dup_model.specs.Pages.{live}
@@ -17,10 +16,10 @@ use Rattle.dup_machine.specs.World.Ended.{Report}
 use Rattle.dup_machine.specs.World.Joined.{Done}
 use Rattle.dup_machine.specs.World.Told.{Begins, Finished, Joins, NothingChanged}
 use Rattle.dup_press.specs.Pressed.{IsSamePlace, Pressed, Tells, pressed}
-use Rattle.dup_press.specs.Told.{HasSettled, IsSettled, summary_of}
+use Rattle.dup_press.specs.Told.{IsSettled, summary_of}
 use Rattle.dup_press.specs.Turns.{AllHanded, HasPublished, HasWorked, UntilTold, counts_left, join_on, publish_on}
 use Rattle.dup_press.specs.declared.answers.Summary.{Summary}
-use Rattle.dup_press.proofs.Chains.{HasWorkedOff, IsAt, Led, led_at_once, led_by_work, worked_off}
+use Rattle.dup_press.proofs.Chains.{HasWorkedOff, Led, led_at_once, led_by_work, worked_off}
 use Rattle.dup_press.proofs.Settling.{nothing_begun}
 
 module _ (old mid new : Pressed) (summary : Summary) (same : IsSamePlace old mid) where

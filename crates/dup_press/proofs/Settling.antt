@@ -1,22 +1,20 @@
 -- Turns, levels and bundles: each leaves less to do.
-use Rattle.std.proofs.Common.{◌≡◌, ◌+◌, ℕ, zero, suc, ◌<◌, ◌≤◌, Bool, true, false, cond, List, [], ◌∷◌, ◌++◌, Option, Some, None, length, take, refl, sym, ap, subst, ◌∙◌, arith}
+use Rattle.std.proofs.Common.{◌≡◌, ◌+◌, ℕ, zero, suc, ◌<◌, ◌≤◌, Bool, true, false, cond, List, [], ◌∷◌, Option, Some, None, length, take, refl, sym, ap, subst, ◌∙◌, arith}
 use Rattle.std.specs.Prelude.{◌==◌}
 use Rattle.std.proofs.Math.Seq.{take-length}
 use Rattle.std.proofs.lemmas.Bool.{or_left}
 use Rattle.std.proofs.lemmas.Bool.Decides.{Decides-eqb}
 use Rattle.std.proofs.lemmas.Option.{none-some, same_Some}
 use Rattle.dup_names.specs.Order.{obj_cmp}
-use Rattle.dup_names.specs.declared.object.Item.{Item}
 use Rattle.dup_names.specs.declared.object.Obj.{Obj}
 use Rattle.dup_names.specs.Objects.{is_in, same_obj}
-use Rattle.dup_names.specs.Words.{Path, in_order}
+use Rattle.dup_names.specs.Words.{in_order}
 use Rattle.dup_names.proofs.ObjectOrder.{obj_itself}
 use Rattle.dup_template.specs.declared.site.Parts.{Parts}
-use Rattle.dup_template.specs.declared.value.Value.{Value}
 use Rattle.dup_model.specs.Commits.{Commit}
 use Rattle.dup_model.specs.Content.{Content}
 use Rattle.dup_model.specs.Embeddings.{EmbedsEarlier}
-use Rattle.dup_model.specs.Expansions.{notes, stale}
+use Rattle.dup_model.specs.Expansions.{notes}
 use Rattle.dup_model.specs.Found.{waiting}
 use Rattle.dup_model.specs.Journal.{Limits}
 use Rattle.dup_model.specs.Pages.{live}
@@ -26,7 +24,7 @@ use Rattle.dup_model.proofs.Finds.{notes_hold}
 use Rattle.dup_machine.specs.Builds.{Build, finished_in, handed_by, joined_in, kept_by, opened_at}
 use Rattle.dup_machine.specs.Presses.{Press, begin_step, begins, begun_version, build_at, finish_step, finishes, hand_step, hands, join_step, joins, put_step, puts, with_build}
 use Rattle.dup_machine.specs.Works.{first_work, level, moved, next_of, unjoined, with_done, with_joined, work_from}
-use Rattle.dup_machine.specs.World.{Begun, Counts, Joined, Told, Work, World, first_world}
+use Rattle.dup_machine.specs.World.{Begun, Counts, Joined, Told, Work, first_world}
 use Rattle.dup_machine.specs.World.Begun.{Nothing, Opened, Same}
 use Rattle.dup_machine.specs.World.Ended.{Report}
 use Rattle.dup_machine.specs.World.Joined.{Done, Level}

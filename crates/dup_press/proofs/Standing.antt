@@ -1,5 +1,5 @@
 -- The status of a press.
-use Rattle.std.proofs.Common.{◌≡◌, ℕ, Bool, not, ◌||◌, List, Option, Some, None, length, refl, sym, ap}
+use Rattle.std.proofs.Common.{◌≡◌, ℕ, Bool, not, ◌||◌, Option, Some, None, length, refl, sym, ap}
 use Rattle.std.specs.Prelude.{is_some}
 use Rattle.std.specs.Option.{option_map}
 use Rattle.dup_model.specs.Bundles.{bundle}
@@ -7,7 +7,7 @@ use Rattle.dup_model.specs.Editions.{edition}
 use Rattle.dup_template.specs.declared.site.Parts.{Parts}
 use Rattle.dup_machine.specs.Press.{press_of}
 use Rattle.dup_machine.specs.Presses.{Press, target_by}
-use Rattle.dup_machine.specs.Status.{Status, is_of, status}
+use Rattle.dup_machine.specs.Status.{is_of, status}
 use Rattle.dup_machine.specs.World.{Work, World}
 use Rattle.dup_press.proofs.Fits.{world_of}
 

@@ -1,6 +1,5 @@
 -- What a settle comes to, as its callers see it.
 use Rattle.std.proofs.Common.{◌≡◌, ℕ, Bool, List, [], Option, Some, None, cond, length, refl, sym, ap, subst, ◌∙◌, arith}
-use Rattle.std.specs.Cmp.{nat_cmp_total}
 use Rattle.std.specs.Ordering.{nat_cmp}
 use Rattle.std.specs.FinMap as fin
 use Rattle.std.proofs.lemmas.Bool.Decides.{Decides-eqb}
@@ -9,7 +8,6 @@ use Rattle.std.proofs.Math.Seq.{take-length}
 use Rattle.dup_template.specs.declared.site.Parts.{Parts}
 use Rattle.dup_model.specs.Commits.{Commit}
 use Rattle.dup_model.specs.Content.{Content}
-use Rattle.dup_model.specs.Editions.{Bundle}
 use Rattle.dup_model.specs.Embeddings.{EmbedsEarlier}
 use Rattle.dup_model.specs.Journal.{Limits}
 use Rattle.dup_model.specs.Touched.{expanded}
@@ -19,8 +17,7 @@ use Rattle.dup_build.specs.declared.answers.Begun.{Begun}
 use Rattle.dup_build.specs.declared.answers.Begun.TheVariants as begun
 use Rattle.dup_machine.specs.Builds.{opened_at}
 use Rattle.dup_machine.specs.Presses.{Press, begin_step, begins, build_at}
-use Rattle.dup_machine.specs.Press.{press_of}
-use Rattle.dup_machine.specs.Settle.{AllPublished, counts_of, publishing}
+use Rattle.dup_machine.specs.Settle.{counts_of}
 use Rattle.dup_machine.specs.Works.{more, work_from}
 use Rattle.dup_machine.specs.World.{Counts, Told, Work, World}
 use Rattle.dup_machine.specs.World as machine
@@ -32,7 +29,7 @@ use Rattle.dup_press.specs.Settled.{PublishesLast, counts_to_last, last_content,
 use Rattle.dup_press.specs.Told.{summary_of}
 use Rattle.dup_press.specs.Turns.{HasPublished, HasWorked, UntilTold, counts_left, publish_on, ticked}
 use Rattle.dup_press.specs.declared.answers.Summary.{Summary}
-use Rattle.dup_press.proofs.Chains.{HasWorkedOff, IsAt, published_all}
+use Rattle.dup_press.proofs.Chains.{HasWorkedOff, published_all}
 use Rattle.dup_press.proofs.Outcomes.{ShowsLast, fresh_outcome, published_last, resumed_outcome}
 use Rattle.dup_press.proofs.Settled.{worked}
 use Rattle.dup_press.proofs.Settling.{nothing_begun}

@@ -1,5 +1,5 @@
 -- What the calls of a press answer, in the machine's words.
-use Rattle.std.specs.Prelude.{◌≡◌, ⊤, ℕ, ◌-◌, length}
+use Rattle.std.specs.Prelude.{◌≡◌, ⊤, ◌-◌, length}
 use Rattle.std.specs.FinMap as fin
 use Rattle.std.specs.List.{fold}
 use Rattle.std.specs.Prelude.{List, None}

@@ -1,6 +1,6 @@
 -- How a press settles: turns of a hand and a put until none waits, and a step again and again until it tells
 -- that nothing is left.
-use Rattle.std.specs.Prelude.{◌≡◌, ◌≢◌, ◌+◌, ◌-◌, ◌^◌, min, ℕ, zero, suc, List, [], Option, Some, None, length}
+use Rattle.std.specs.Prelude.{◌≡◌, ◌≢◌, ◌+◌, ◌-◌, ◌^◌, min, ℕ, zero, suc, [], Some, None, length}
 use Rattle.dup_names.specs.declared.object.Obj.{Obj}
 use Rattle.dup_template.specs.declared.site.Parts.{Parts}
 use Rattle.dup_model.specs.Embeddings.{EmbedsEarlier}

@@ -1,4 +1,4 @@
-use Rattle.std.proofs.Common.{◌≡◌, ◌≤◌, Some, sym, ap, subst, ◌∙◌, arith}
+use Rattle.std.proofs.Common.{◌≡◌, ◌≤◌, Some, sym, ap, subst, ◌∙◌}
 use Rattle.dup_press.specs.Press.{aim, due_paths}
 use Rattle.dup_press.specs.Pressed.{Pressed}
 use Rattle.dup_press.proofs.Sending.{published_within}

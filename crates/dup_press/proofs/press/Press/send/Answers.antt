@@ -1,4 +1,4 @@
-use Rattle.std.proofs.Common.{◌≡◌, ◌++◌, ◌∷◌, [], List, sym, ap, subst, ◌∙◌, rules}
+use Rattle.std.proofs.Common.{◌≡◌, ◌++◌, ◌∷◌, [], sym, ap, subst, ◌∙◌, rules}
 use Rattle.dup_bundle.specs.Between.{changed_paths}
 use Rattle.dup_edition.specs.Logged.{appended}
 use Rattle.dup_model.specs.Editions.{Bundle}

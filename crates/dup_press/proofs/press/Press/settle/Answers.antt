@@ -1,16 +1,13 @@
-use Rattle.std.proofs.Common.{sym, ap, subst}
+use Rattle.std.proofs.Common.{subst}
 use Rattle.dup_build.specs.Answers.{begun_told}
 use Rattle.dup_build.specs.declared.answers.Begun.{Begun}
-use Rattle.dup_template.specs.declared.site.Parts.{Parts}
-use Rattle.dup_machine.specs.Presses.{Press, begin_step}
+use Rattle.dup_machine.specs.Presses.{begin_step}
 use Rattle.dup_machine.specs.World as machine
 use Rattle.dup_model.specs.Embeddings.{EmbedsEarlier}
-use Rattle.dup_press.specs.Pressed.{Tells, pressed}
-use Rattle.dup_press.specs.Turns.{IsWorking}
+use Rattle.dup_press.specs.Pressed.{Tells}
 use Rattle.dup_press.specs.declared.answers.Summary.{Summary}
 use Rattle.dup_press.proofs.Looping.{not_nothing_begun, same_twice}
 use Rattle.dup_press.proofs.Settled.{left_idle, left_made, settled_at_once, settled_by_work}
-use Rattle.dup_press.proofs.Settling.{begun_working}
 use Rattle.dup_press.proofs.Summaries.{Outcome, outcome_by_work, outcome_if_nothing}
 use Rattle.dup_press.proofs.press.Press.settle.Goals as goal
 

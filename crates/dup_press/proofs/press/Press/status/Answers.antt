@@ -1,7 +1,7 @@
-use Rattle.std.proofs.Common.{◌≡◌, ◌||◌, Bool, not, length, refl, sym, ap, subst, ◌∙◌}
+use Rattle.std.proofs.Common.{◌≡◌, ◌||◌, Bool, not, length, sym, ap, subst, ◌∙◌}
 use Rattle.std.specs.Prelude.{is_some}
 use Rattle.dup_machine.specs.Press.{press_of}
-use Rattle.dup_machine.specs.Status.{Status, is_of, status}
+use Rattle.dup_machine.specs.Status.{is_of, status}
 use Rattle.dup_machine.specs.World.{World}
 use Rattle.dup_press.specs.Journaled.{Journaled}
 use Rattle.dup_press.specs.Pressed.{Pressed, pressed}

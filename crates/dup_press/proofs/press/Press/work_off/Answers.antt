@@ -1,16 +1,15 @@
-use Rattle.std.proofs.Common.{◌≡◌, ℕ, ◌-◌, List, length, sym, ap, subst, ◌∙◌}
+use Rattle.std.proofs.Common.{◌≡◌, ◌-◌, List, length, sym, ap, subst, ◌∙◌}
 use Rattle.dup_template.specs.declared.site.Parts.{Parts}
 use Rattle.dup_model.specs.Editions.{Bundle}
 use Rattle.dup_build.specs.Answers.{finish_told}
 use Rattle.dup_build.specs.declared.answers.Finish.{Finish}
 use Rattle.dup_machine.specs.Presses.{Press, finish_step}
 use Rattle.dup_machine.specs.World.{Counts, Told}
-use Rattle.dup_machine.specs.World as machine
 use Rattle.dup_machine.specs.World.Ended.{Report}
 use Rattle.dup_machine.specs.World.Joined.{Done}
 use Rattle.dup_machine.specs.World.Told.{Finished, Joins, NothingChanged}
 use Rattle.dup_press.specs.Pressed.{IsSamePlace, Tells, pressed}
-use Rattle.dup_press.specs.Turns.{AllHanded, IsCalm, IsJoined, UntilTold, join_on, publish_on}
+use Rattle.dup_press.specs.Turns.{IsJoined, UntilTold, join_on, publish_on}
 use Rattle.dup_press.proofs.Looping.{same_twice, told_report, worked_log}
 use Rattle.dup_press.proofs.Settling.{finish_reports}
 use Rattle.dup_press.proofs.press.Press.work_off.Goals as goal

@@ -1,4 +1,4 @@
-use Rattle.std.proofs.Common.{rules, Some, sym, ap, subst, ◌≡◌, ◌∙◌}
+use Rattle.std.proofs.Common.{rules, sym, ap, subst, ◌∙◌}
 use Rattle.dup_build.specs.Answers.{finish_told}
 use Rattle.dup_build.specs.Built.{Built}
 use Rattle.dup_build.specs.Closing.{IsClosing}
