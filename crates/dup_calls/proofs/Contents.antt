@@ -14,6 +14,8 @@ use Rattle.dup_machine.specs.World.{Begun, Work}
 use Rattle.dup_machine.specs.World.Begun.{Nothing, Opened, Same}
 use Rattle.dup_machine.specs.World.Told.{Unasked}
 use Rattle.dup_machine.specs.Works.{level, moved, next_of, unjoined, work_from}
+use Rattle.dup_build.specs.declared.answers.Put.{Put}
+use Rattle.dup_build.specs.declared.answers.Put.TheVariants as answer
 use Rattle.dup_build.specs.Built.{begun, finished, handed, joins, put}
 
 of_hand : (b : Build) (w : Work) (o : Option Obj) → (handed_by w o b).1.content ≡ b.content
@@ -97,3 +99,16 @@ again_by v c b None (Some a) is = again_open v c b (Nothing a) (work_from b.cont
 
 pub again_content : (v : ℕ) (c : Content) (b : Build) → b.content ≡ c → (begun v c b).1.content ≡ c
 again_content v c b is = again_by v c b b.work b.target is
+
+-- what holds whether or not a put is foreign
+abbrev is_foreign : Put → Bool
+is_foreign answer.Foreign = true
+is_foreign answer.Unasked = false
+is_foreign (answer.Stale item noted present) = false
+is_foreign (answer.Kept waiting) = false
+
+pub either_told : (told : Put) (R : Type 0) → (told ≡ answer.Foreign → R) → ((told ≡ answer.Foreign → ⊥) → R) → R
+either_told answer.Foreign R is isnt = is refl
+either_told answer.Unasked R is isnt = isnt (λ e. true≢false (sym (ap is_foreign e)))
+either_told (answer.Stale item noted present) R is isnt = isnt (λ e. true≢false (sym (ap is_foreign e)))
+either_told (answer.Kept waiting) R is isnt = isnt (λ e. true≢false (sym (ap is_foreign e)))

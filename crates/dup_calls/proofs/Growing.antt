@@ -1,6 +1,7 @@
 -- The log of a press grows, and what nodes hold stays true of it.
 use Rattle.std.proofs.Common.{◌≡◌, ℕ, refl, sym, ap, ◌∙◌, List, [], ◌++◌, append-nil, append_assoc}
-use Rattle.std.specs.Prelude.{All}
+use Rattle.std.specs.Prelude.{All, OnOk, Ok, Err}
+use Rattle.std.specs.declared.result.Result.{Result}
 use Rattle.std.specs.FinMap as fin
 use Rattle.std.specs.Ordering.{nat_cmp}
 use Rattle.std.proofs.lemmas.List.Elements.{All-weaker}
@@ -37,3 +38,8 @@ settled_log old new summary settled =
 
 pub all_grow : (log first : List Bundle) (nodes : List Cache) → BeginsWith log first → All (HoldsPagesOf first) nodes → All (HoldsPagesOf log) nodes
 all_grow log first nodes begins all = All-weaker (HoldsPagesOf first) (HoldsPagesOf log) (λ cache is. growing_holds log first cache begins is) nodes all
+
+-- what holds in any case holds where there is an answer
+pub on_ok : {A E P : Type 0} (r : Result A E) → P → OnOk r P
+on_ok (Ok x) p = p
+on_ok (Err e) p = tt

@@ -134,7 +134,8 @@ pub(crate) fn put(
     let site = Arc::try_clone(made.site())?;
     let obj = obj_text(alloc, &site, made.obj())?;
     let told = build.put(alloc, made)?;
-    put_text(alloc, &site, &obj, &told)
+    let text = put_text(alloc, &site, &obj, &told)?;
+    Ok(text)
 }
 
 // Whether one more object was expanded.
@@ -236,7 +237,8 @@ fn play(
     let alloc = rt.alloc();
     let mut held = Vec::new(alloc);
     let mut number: usize = 0;
-    for (call, wanted) in row {
+    for step in row {
+        let (call, wanted) = step;
         number = number.saturating_add(1);
         let told = answer(rt, alloc, works, &mut held, *call)?;
         assert_eq!(rt; told.as_str(), *wanted, "{name}: call {number}");

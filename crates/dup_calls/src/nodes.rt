@@ -68,6 +68,7 @@ fn reply_text(alloc: Global, reply: &Reply) -> Result<String, Fail> {
 }
 
 // A commit and a settle for each of so many titles.
+#[tactic(auto, using(crate::proofs::Growing::grows_on, crate::proofs::Growing::same_log))]
 fn titles(
     rt: &(impl Threads + Sync),
     alloc: Global,
@@ -113,13 +114,13 @@ fn serve(
     node: &mut Node,
     edition: &Edition,
     pass: u64,
-    path: &str,
+    path: &Path,
 ) -> Result<String, Fail>
     requires { HoldsPagesOf edition.now.log node.old }
     ensures { HoldsPagesOf edition.now.log node.new }
 {
     let mut window = PlainWindow::new(edition);
-    let reply = node.serve(alloc, &mut window, Pass(pass), &path_of(path)?)?;
+    let reply = node.serve(alloc, &mut window, Pass(pass), path)?;
     reply_text(alloc, &reply)
 }
 
@@ -134,8 +135,9 @@ fn get(
     requires { All (HoldsPagesOf edition.now.log) nodes.old.items }
     ensures { All (HoldsPagesOf edition.now.log) nodes.new.items }
 {
+    let path = path_of(path)?;
     match nodes.get_mut(number.saturating_sub(1)) {
-        Some(node) => serve(alloc, node, edition, pass, path),
+        Some(node) => serve(alloc, node, edition, pass, &path),
         None => Err(Fail::from("no node")),
     }
 }
@@ -149,8 +151,9 @@ fn bring_up(
     requires { HoldsPagesOf edition.now.log node.old }
     ensures { HoldsPagesOf edition.now.log node.new }
 {
+    let path = path_of("/")?;
     let mut window = PlainWindow::new(edition);
-    node.deliver(alloc, &mut window, &path_of("/")?)?;
+    node.deliver(alloc, &mut window, &path)?;
     let edition = node.edition();
     let entries = node.len();
     Ok(format!(in alloc; "delivered {number} edition {edition} entries {entries}")?)
@@ -223,7 +226,8 @@ fn play(
 {
     let alloc = rt.alloc();
     let mut number: usize = 0;
-    for (call, wanted) in row {
+    for step in row {
+        let (call, wanted) = step;
         number = number.saturating_add(1);
         let told = answer(rt, alloc, press, nodes, *call)?;
         assert_eq!(rt; told.as_str(), *wanted, "{name}: call {number}");

@@ -165,7 +165,15 @@ pub(crate) fn commit(
     Ok(text)
 }
 
-/// What a settle is answered. Where no work was open, the meter counts what the summary tells as expanded.
+// Where no work was open, the meter counts what the summary tells as expanded.
+fn counted(was_idle: bool, meter: &Meter, summary: &Summary) -> Result<(), Fail> {
+    if was_idle && meter.count() != summary.expanded {
+        return Err(Fail::from("another count of expansions"));
+    }
+    Ok(())
+}
+
+/// What a settle is answered.
 pub(crate) fn settle(
     rt: &(impl Threads + Sync),
     alloc: Global,
@@ -173,13 +181,12 @@ pub(crate) fn settle(
 ) -> Result<String, Fail>
     ensures { OnOk result (BeginsWith press.new.log press.old.log) }
 {
-    let is_idle = press.status().work.is_none();
+    let was_idle = press.status().work.is_none();
     let mut meter = Meter::new();
     let summary = press.settle(rt, alloc, &mut meter)?;
-    if is_idle && meter.count() != summary.expanded {
-        return Err(Fail::from("another count of expansions"));
-    }
-    settled_text(alloc, &summary)
+    counted(was_idle, &meter, &summary)?;
+    let text = settled_text(alloc, &summary)?;
+    Ok(text)
 }
 
 fn hand(
