@@ -1,5 +1,5 @@
 -- The log of a press grows, and what nodes hold stays true of it.
-use Rattle.std.proofs.Common.{◌≡◌, ℕ, refl, sym, ap, ◌∙◌, List, [], ◌++◌, append-nil, append_assoc}
+use Rattle.std.proofs.Common.{refl, sym, ap, ◌∙◌, List, [], ◌++◌, append-nil, append_assoc}
 use Rattle.std.specs.Prelude.{All, OnOk, Ok, Err}
 use Rattle.std.specs.declared.result.Result.{Result}
 use Rattle.std.specs.FinMap as fin
