@@ -1,5 +1,5 @@
 -- What the commands of nodes do to the nodes of a session.
-use Rattle.std.proofs.Common.{◌≡◌, ℕ, Bool, true, false, cond, refl, sym, ap, ◌∙◌, subst, List, [], length, arith}
+use Rattle.std.proofs.Common.{◌≡◌, ℕ, Bool, true, false, cond, refl, sym, ap, ◌∙◌, subst, List, [], arith}
 use Rattle.std.specs.Prelude.{Option, Some, None, is_some}
 use Rattle.std.specs.Map.{lookup}
 use Rattle.std.specs.declared.alloc.Global.{Global}
@@ -16,7 +16,7 @@ use Rattle.dup_model.specs.Serving.{HoldsPagesOf}
 use Rattle.dup_model.specs.declared.mode.Mode.{Mode}
 use Rattle.dup_machine.specs.Presses.{Press}
 use Rattle.dup_machine.specs.World.{answered}
-use Rattle.dup_machine.specs.World.Told.{Delivered, Evicted, NodeMade, NodeTaken, NoNode}
+use Rattle.dup_machine.specs.World.Told.{Evicted, NodeMade, NodeTaken, NoNode}
 use Rattle.dup_cache.specs.Entries.{evicted, has_path}
 use Rattle.dup_cache.specs.declared.how.How.{How}
 use Rattle.dup_cache.specs.declared.how.How.TheVariants as hows

@@ -1,14 +1,11 @@
 pub mod Acting
 pub mod Caches
-pub mod Rooms
 pub mod CutScripts
-pub mod NumberLemmas
 pub mod PageJobs
 pub mod RenderSoFar
 pub mod ScriptSoFar
 pub mod SiteSoFar
 pub mod WholeRuns
-pub mod WordLemmas
 pub mod Reached
 pub mod PlayedRuns
 pub mod TakenCommits

@@ -11,7 +11,7 @@ use Rattle.dup_transcript.specs.Commands.{Command}
 use Rattle.dup_model.specs.Commits.{Commit}
 use Rattle.dup_model.specs.Content.{Content}
 use Rattle.dup_model.specs.Versions.{content}
-use Rattle.dup_main.specs.Commands.{command_of}
+use Rattle.dup_script.specs.Commands.{command_of}
 use Rattle.dup_main.specs.Taken.{HasTaken, Takes}
 use Rattle.dup_main.specs.declared.render_lines.Rendering.{Rendering}
 use Rattle.dup_transcript.specs.RenderedPages.{accepted, last_content, rendered_pages, render_answer, render_answers}

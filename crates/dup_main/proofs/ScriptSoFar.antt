@@ -1,5 +1,5 @@
 -- A script so far, and one answer more.
-use Rattle.std.proofs.Common.{◌≡◌, ℕ, ◌+◌, refl, sym, ap, ◌∙◌, subst, [], ◌++◌, append_assoc, append-nil}
+use Rattle.std.proofs.Common.{◌≡◌, ℕ, ◌+◌, refl, sym, ◌∙◌, subst, [], ◌++◌, append_assoc, append-nil}
 use Rattle.std.specs.Prelude.{None, Some, Option}
 use Rattle.std.specs.Io.KnownBytes.{Appends}
 use Rattle.std.proofs.KnownBytes.{Appends-trans, Appends-nil}
@@ -9,7 +9,7 @@ use Rattle.dup_names.specs.Words.{Word}
 use Rattle.dup_template.specs.declared.site.Parts.{Parts}
 use Rattle.dup_model.specs.Journal.{usual_limits}
 use Rattle.dup_transcript.specs.Commands.{Command}
-use Rattle.dup_main.specs.Commands.{command_of}
+use Rattle.dup_script.specs.Commands.{command_of}
 use Rattle.dup_transcript.specs.Turns.{Standing, Turns, Writes, first_standing}
 use Rattle.dup_main.specs.Stops.{WritesScript}
 use Rattle.dup_transcript.specs.Transcript.{commands, ending, too_long}

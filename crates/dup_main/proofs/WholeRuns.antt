@@ -10,11 +10,11 @@ use Rattle.dup_names.specs.Words.{Word}
 use Rattle.dup_template.specs.declared.site.Parts.{Parts}
 use Rattle.dup_main.specs.declared.stop.Stop.{Stop}
 use Rattle.dup_main.specs.declared.stop.Stop.TheVariants as stops
-use Rattle.dup_main.specs.Commands.{command_of}
-use Rattle.dup_transcript.specs.BadSites.{bad_site_text, or_cause}
+use Rattle.dup_script.specs.Commands.{command_of}
+use Rattle.dup_transcript.specs.BadSites.{bad_site_text}
 use Rattle.dup_transcript.specs.Turns.{Writes, first_standing}
 use Rattle.dup_main.specs.Stops.{IsSiteText, ReadsSite, CountsSite, WritesScript, StopsInScript, StopsInSite, StopsAt, BarsSite, stop_status, stop_text, writes}
-use Rattle.dup_transcript.specs.Transcript.{commands, too_long, RendersLines, Does, DoesSite, DoesRead, IsTranscript, ending, site_for, site_ok, too_long_input, too_long_line}
+use Rattle.dup_transcript.specs.Transcript.{too_long, RendersLines, Does, DoesSite, DoesRead, IsTranscript, ending, site_for, site_ok, too_long_input, too_long_line}
 use Rattle.dup_main.specs.Transcript.{WritesTranscript, grammars}
 use Rattle.dup_transcript.specs.Inputs.{site_is_read, site_text, site_lines, script}
 use Rattle.dup_transcript.specs.declared.task.Task.{Task}

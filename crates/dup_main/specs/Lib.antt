@@ -1,5 +1,4 @@
 pub mod Faults
-pub mod Commands
 pub mod Kept
 pub mod LineStops
 pub mod Reach

@@ -7,9 +7,9 @@ ghost use Rattle.dup_main.specs.Stops.{StopsAt, stop_status, stop_text, writes};
 ghost use Rattle.dup_main.specs.Tasks.{task_of};
 ghost use Rattle.dup_main.specs.Transcript.{WritesRun, WritesTranscript, usage};
 ghost use Rattle.dup_machine.specs.Headline.{Headline};
+ghost use Rattle.dup_transcript.specs.BadSites.{bad_site_text};
 ghost use Rattle.dup_transcript.specs.Transcript.{too_long_line};
 
-use crate::bad_site::bad_site_text;
 use crate::check::check_site;
 use crate::play::play;
 use crate::render_site::render_site;
@@ -17,6 +17,9 @@ use crate::stop::Stop;
 use crate::task::task_of;
 use dup_io::{Sink, Source, put_all};
 use dup_machine::headline;
+use dup_names::NoMemory;
+use dup_script::bad_site_text;
+use dup_site::SiteTextRefusal;
 use dup_transcript::Task;
 use std::alloc::{AllocError, Global};
 use std::marker::Sync;
@@ -29,6 +32,14 @@ fn too_long_line(alloc: Global, number: u64) -> Result<String, AllocError>
     ensures { IfOk result (λ text. string_bytes text ≡ too_long_line number) }
 {
     format!(in alloc; "too long: line {number}\n")
+}
+
+fn bad_site_line(alloc: Global, why: SiteTextRefusal) -> Result<Vec<u8>, NoMemory>
+    ensures { IfOk result (λ text. text.items ≡ bad_site_text why) }
+{
+    let mut text = Vec::new(alloc);
+    bad_site_text(why, &mut text)?;
+    Ok(text)
 }
 
 /// Writes a last text and gives the status, or 4 where the sink fails.
@@ -59,7 +70,7 @@ fn finish<K: Sink>(alloc: Global, out: &mut K, stop: Stop) -> u8
     match stop {
         Stop::ReadFault => end(out, 3, b"read fault\n"),
         Stop::WriteFault => 4,
-        Stop::BadSite(why) => match bad_site_text(alloc, why) {
+        Stop::BadSite(why) => match bad_site_line(alloc, why) {
             Ok(text) => end(out, 5, &text),
             Err(_) => 6,
         },

@@ -9,17 +9,17 @@ ghost use Rattle.dup_model.specs.GoodSites.{IsGoodContent};
 ghost use Rattle.dup_transcript.specs.declared.command.Command.TheVariants as command;
 ghost use Rattle.dup_main.specs.Faults.{FaultHasCause};
 ghost use Rattle.dup_main.specs.Taken.{Takes};
-ghost use Rattle.dup_main.specs.Commands.{command_of};
+ghost use Rattle.dup_script.specs.Commands.{command_of};
 ghost use Rattle.dup_main.specs.Stops.{StopsInScript, WritesScript};
 ghost use Rattle.dup_transcript.specs.Transcript.{RendersLines};
 
 use crate::all_pages::put_pages;
-use crate::command::read_command;
+use crate::answer::{bad_feed_text, refusal_text, text_of};
 use crate::stop::Stop;
-use crate::texts::{bad_feed_text, bad_line, refusal_text};
 use dup_io::{Lines, Sink, Source, put_all};
 use dup_names::NoMemory;
 use dup_records::{Commit, CommitRefusal, Content, JournalSize, Limits, apply};
+use dup_script::{Said, read_command};
 use dup_template::Site;
 use dup_transcript::Command;
 use std::alloc::Global;
@@ -75,7 +75,7 @@ fn take(
         Command::Blank => Ok(Vec::new(alloc)),
         Command::Commit(commit) => take_commit(alloc, taken, &commit),
         Command::BadFeed(why) => bad_feed_text(alloc, why),
-        _ => Ok(bad_line(alloc, number)?.into_bytes()),
+        _ => text_of(alloc, &Said::BadLine(number)),
     }
 }
 

@@ -3,15 +3,15 @@ ghost use Rattle.std.specs.Io.KnownBytes.{IsAtEnd};
 ghost use Rattle.dup_io.specs.Causes.{Rose};
 ghost use Rattle.dup_io.specs.Lines.{to_read, source_of, reference_of, number_of, fault_of};
 ghost use Rattle.dup_main.specs.Faults.{FaultHasCause};
-ghost use Rattle.dup_main.specs.Commands.{command_of};
+ghost use Rattle.dup_script.specs.Commands.{command_of};
 ghost use Rattle.dup_main.specs.Kept.{IsSound, standing};
 ghost use Rattle.dup_main.specs.Stops.{StopsInScript, WritesScript};
 ghost use Rattle.dup_transcript.specs.Turns.{Writes, first_standing};
 
-use crate::command::read_command;
 use crate::session::Session;
 use crate::stop::Stop;
 use dup_io::{Lines, Sink, Source, put_all};
+use dup_script::read_command;
 use dup_template::Site;
 use std::alloc::Global;
 use std::marker::Sync;

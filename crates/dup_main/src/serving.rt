@@ -1,16 +1,21 @@
 // The nodes of a session, over the edition that its press publishes.
-ghost use Rattle.std.specs.Prelude.{◌≤◌, [], IfOk, List, OnOk};
+ghost use Rattle.std.specs.Prelude.{◌≡◌, ◌≤◌, [], IfOk, List, OnOk};
+ghost use Rattle.dup_machine.specs.World.{answered};
+ghost use Rattle.dup_machine.specs.World as machine;
 ghost use Rattle.dup_model.specs.Editions.{Bundle};
 ghost use Rattle.dup_model.specs.Serving.{HoldsPagesOf};
+ghost use Rattle.dup_node.specs.Replies.{how_told, reply_told};
+ghost use Rattle.dup_script.specs.Answers.{how_of, said_text};
+ghost use Rattle.dup_transcript.specs.Texts.{found_text, told_text};
 ghost use Rattle.dup_transcript.specs.declared.command.Command.TheVariants as command;
 ghost use Rattle.dup_main.specs.Serving.{AllHold, Delivers, Puts, Serves, TurnsNodes};
 
-use crate::texts::{delivered_text, evicted_text, no_node_text, node_text, reply_text};
-use dup_cache::PlainWindow;
-use dup_edition::Edition;
+use dup_cache::{How, PlainWindow};
+use dup_edition::{Edition, Page};
 use dup_model::Mode;
 use dup_names::{NoMemory, Pass, Path};
-use dup_node::Node;
+use dup_node::{Node, Reply};
+use dup_script::{HowWord, Said};
 use std::alloc::Global;
 use std::collections::BTreeMap;
 
@@ -42,38 +47,74 @@ pub(crate) fn add_node(
     number: u16,
     capacity: u32,
     mode: Mode,
-) -> Result<Vec<u8>, NoMemory>
+) -> Result<Said, NoMemory>
     requires some { 1 ≤ capacity }
     requires fits { capacity ≤ 65536 }
     ensures holds { OnOk result
         ((log : List Bundle) → AllHold nodes.old log → AllHold nodes.new log) }
-    ensures turns { IfOk result (λ text. (log : List Bundle) →
-        TurnsNodes log nodes.old (command.Node number capacity mode) text.items nodes.new) }
+    ensures turns { IfOk result (λ said. (log : List Bundle) →
+        TurnsNodes log nodes.old (command.Node number capacity mode) (said_text said) nodes.new) }
 {
-    let taken = nodes.contains_key(&number);
-    let text = node_text(alloc, taken, number)?;
-    if !taken {
-        make_node(alloc, nodes, number, capacity, mode)?;
+    if nodes.contains_key(&number) {
+        return Ok(Said::NodeTaken(number));
     }
-    Ok(text.into_bytes())
+    make_node(alloc, nodes, number, capacity, mode)?;
+    Ok(Said::Node(number))
 }
 
-// What a node answers to a request, in words.
+fn how_word(how: How) -> HowWord
+    ensures { how_of result ≡ how_told how }
+{
+    match how {
+        How::Hit => HowWord::Hit,
+        How::Miss => HowWord::Miss,
+        How::MissUnkept => HowWord::Unkept,
+    }
+}
+
+fn found(edition: u64, page: &Page, how: How) -> Result<Said, NoMemory>
+    ensures { IfOk result (λ said. said_text said ≡ found_text edition page.now (how_told how)) }
+{
+    let bytes = page.look().bytes.share()?;
+    let how = how_word(how);
+    Ok(Said::Found {
+        edition,
+        version: page.version(),
+        how,
+        bytes,
+    })
+}
+
+// What a reply says. The bytes of its page are shared.
+fn said_of(reply: &Reply) -> Result<Said, NoMemory>
+    ensures { IfOk result (λ said. said_text said ≡ told_text (answered (reply_told reply.now))) }
+{
+    match reply {
+        Reply::Found { edition, page, how } => found(*edition, page, *how),
+        Reply::Absent { edition } => Ok(Said::Absent(*edition)),
+        Reply::Ahead { pass, edition } => Ok(Said::Ahead {
+            pass: pass.0,
+            edition: *edition,
+        }),
+    }
+}
+
+// What a node answers to a request.
 fn serve(
     alloc: Global,
     node: &mut Node,
     edition: &Edition,
     pass: u64,
     path: &Path,
-) -> Result<Vec<u8>, NoMemory>
+) -> Result<Said, NoMemory>
     requires { HoldsPagesOf edition.now.log node.old }
     ensures holds { HoldsPagesOf edition.now.log node.new }
-    ensures serves { IfOk result (λ text.
-        Serves edition.now.log node.old pass path.now text.items node.new) }
+    ensures serves { IfOk result (λ said.
+        Serves edition.now.log node.old pass path.now (said_text said) node.new) }
 {
     let mut window = PlainWindow::new(edition);
     let reply = node.serve(alloc, &mut window, Pass(pass), path)?;
-    reply_text(alloc, &reply)
+    said_of(&reply)
 }
 
 /// Answers a request at a node, where there is one of this number. A page that can't be kept for want of
@@ -85,15 +126,15 @@ pub(crate) fn get(
     number: u16,
     pass: u64,
     path: &Path,
-) -> Result<Vec<u8>, NoMemory>
+) -> Result<Said, NoMemory>
     requires { AllHold nodes.old edition.now.log }
     ensures holds { AllHold nodes.new edition.now.log }
-    ensures turns { IfOk result (λ text.
-        TurnsNodes edition.now.log nodes.old (command.Get number pass path.now) text.items nodes.new) }
+    ensures turns { IfOk result (λ said.
+        TurnsNodes edition.now.log nodes.old (command.Get number pass path.now) (said_text said) nodes.new) }
 {
     match nodes.get_mut(&number) {
         Some(node) => serve(alloc, node, edition, pass, path),
-        None => Ok(no_node_text(alloc, number)?.into_bytes()),
+        None => Ok(Said::NoNode(number)),
     }
 }
 
@@ -103,16 +144,20 @@ fn bring_up(
     number: u16,
     node: &mut Node,
     edition: &Edition,
-) -> Result<Vec<u8>, NoMemory>
+) -> Result<Said, NoMemory>
     requires { HoldsPagesOf edition.now.log node.old }
     ensures holds { HoldsPagesOf edition.now.log node.new }
-    ensures delivers { IfOk result (λ text.
-        Delivers edition.now.log number node.old text.items node.new) }
+    ensures delivers { IfOk result (λ said.
+        Delivers edition.now.log number node.old (said_text said) node.new) }
 {
     let mut window = PlainWindow::new(edition);
     let root = Path::read(b"/").unwrap();
     node.deliver(alloc, &mut window, &root)?;
-    Ok(delivered_text(alloc, number, node.edition(), node.len())?.into_bytes())
+    Ok(Said::Delivered {
+        node: number,
+        edition: node.edition(),
+        entries: node.len(),
+    })
 }
 
 /// Delivers the edition to a node, where there is one of this number.
@@ -121,31 +166,32 @@ pub(crate) fn deliver(
     nodes: &mut Nodes,
     edition: &Edition,
     number: u16,
-) -> Result<Vec<u8>, NoMemory>
+) -> Result<Said, NoMemory>
     requires { AllHold nodes.old edition.now.log }
     ensures holds { AllHold nodes.new edition.now.log }
-    ensures turns { IfOk result (λ text.
-        TurnsNodes edition.now.log nodes.old (command.Deliver number) text.items nodes.new) }
+    ensures turns { IfOk result (λ said.
+        TurnsNodes edition.now.log nodes.old (command.Deliver number) (said_text said) nodes.new) }
 {
     match nodes.get_mut(&number) {
         Some(node) => bring_up(alloc, number, node, edition),
-        None => Ok(no_node_text(alloc, number)?.into_bytes()),
+        None => Ok(Said::NoNode(number)),
     }
 }
 
-/// Drops the page of a path from the cache of a node, where there is one of this number.
-pub(crate) fn evict(
-    alloc: Global,
-    nodes: &mut Nodes,
-    number: u16,
-    path: &Path,
-) -> Result<Vec<u8>, NoMemory>
+fn evicted(found: bool) -> Said
+    ensures { said_text result ≡ told_text (machine.Told.Evicted found) }
+{
+    if found { Said::Evicted } else { Said::NotKept }
+}
+
+/// Drops the page of a path from the cache of a node, where there is one of this number. It takes no memory.
+pub(crate) fn evict(nodes: &mut Nodes, number: u16, path: &Path) -> Said
     ensures holds { (log : List Bundle) → AllHold nodes.old log → AllHold nodes.new log }
-    ensures turns { IfOk result (λ text. (log : List Bundle) →
-        TurnsNodes log nodes.old (command.Evict number path.now) text.items nodes.new) }
+    ensures turns { (log : List Bundle) →
+        TurnsNodes log nodes.old (command.Evict number path.now) (said_text result) nodes.new }
 {
     match nodes.get_mut(&number) {
-        Some(node) => Ok(evicted_text(node.evict(path)).to_vec(alloc)?),
-        None => Ok(no_node_text(alloc, number)?.into_bytes()),
+        Some(node) => evicted(node.evict(path)),
+        None => Said::NoNode(number),
     }
 }

@@ -1,14 +1,15 @@
 ghost use Rattle.std.specs.Prelude.{◌≡◌, IfOk, OnOk};
+ghost use Rattle.dup_script.specs.Answers.{said_text};
+ghost use Rattle.dup_transcript.specs.Texts.{settled_text, status_text};
 
+use crate::answer::{bad_feed_text, refusal_text, text_of};
 use crate::serving::{Nodes, add_node, deliver, evict, get};
-use crate::texts::{
-    bad_feed_text, bad_line, committed_text, not_built, refusal_text, settled_text, status_text,
-};
 use dup_edition::PlainOutlet;
 use dup_model::Mode;
 use dup_names::{Meter, NoMemory, Path};
-use dup_press::Press;
+use dup_press::{Press, Status, Summary};
 use dup_records::{Commit, CommitRefusal, Limits};
+use dup_script::Said;
 use dup_template::Site;
 use dup_transcript::Command;
 use std::alloc::Global;
@@ -24,8 +25,61 @@ pub(crate) struct Session {
     meter: Meter,
 }
 
+// What a settle did.
+fn settled(summary: Summary) -> Said
+    ensures { said_text result ≡ settled_text summary.edition summary.bundles (record {
+      version = summary.version;
+      expanded = summary.expanded;
+      joined = summary.joined;
+      kept = summary.kept;
+    }) }
+{
+    let Summary {
+        version,
+        edition,
+        bundles,
+        expanded,
+        joined,
+        kept,
+    } = summary;
+    Said::Settled {
+        version,
+        edition,
+        bundles,
+        expanded,
+        joined,
+        kept,
+    }
+}
+
+// How a press stands.
+fn status_said(status: Status) -> Said
+    ensures { said_text result ≡ status_text (record {
+      version = status.version;
+      work = status.work;
+      target = status.target;
+      edition = status.edition;
+      pending = status.pending;
+    }) }
+{
+    let Status {
+        version,
+        work,
+        target,
+        edition,
+        pending,
+    } = status;
+    Said::Status {
+        version,
+        work,
+        target,
+        edition,
+        pending,
+    }
+}
+
 impl Session {
-    ghost use Rattle.dup_main.specs.Commands.{HasRoom};
+    ghost use Rattle.dup_script.specs.Commands.{HasRoom};
     ghost use Rattle.dup_main.specs.Kept.{Acts, IsSound, standing};
     ghost use Rattle.dup_transcript.specs.Turns.{first_standing};
     ghost use Rattle.dup_transcript.specs.declared.command.Command.TheVariants as command;
@@ -54,9 +108,9 @@ impl Session {
         ensures acts { IfOk result (λ text. Acts self.old self.new 0 (command.Commit commit) text.items) }
     {
         match self.press.commit(alloc, commit) {
-            Ok(version) => Ok(committed_text(alloc, version)?.into_bytes()),
+            Ok(version) => text_of(alloc, &Said::Committed(version)),
             Err(CommitRefusal::NoMemory) => Err(NoMemory),
-            Err(why) => Ok(refusal_text(alloc, why)?),
+            Err(why) => refusal_text(alloc, why),
         }
     }
 
@@ -67,14 +121,16 @@ impl Session {
         ensures acts { IfOk result (λ text. Acts self.old self.new 0 command.Settle text.items) }
     {
         let summary = self.press.settle(rt, alloc, &mut self.meter)?;
-        Ok(settled_text(alloc, summary)?.into_bytes())
+        let text = text_of(alloc, &settled(summary))?;
+        Ok(text)
     }
 
     fn status(&self, alloc: Global) -> Result<Vec<u8>, NoMemory>
         ensures { IfOk result (λ text. Acts self.now self.now 0 command.Status text.items) }
     {
         let status = self.press.status();
-        Ok(status_text(alloc, status)?.into_bytes())
+        let text = text_of(alloc, &status_said(status))?;
+        Ok(text)
     }
 
     fn add_node(
@@ -91,7 +147,9 @@ impl Session {
         ensures acts { IfOk result (λ text. Acts self.old self.new 0
             (command.Node number capacity mode) text.items) }
     {
-        add_node(alloc, &mut self.nodes, number, capacity, mode)
+        let said = add_node(alloc, &mut self.nodes, number, capacity, mode)?;
+        let text = text_of(alloc, &said)?;
+        Ok(text)
     }
 
     fn deliver(&mut self, alloc: Global, number: u16) -> Result<Vec<u8>, NoMemory>
@@ -100,7 +158,9 @@ impl Session {
         ensures sound { OnOk result (IsSound self.new) }
         ensures acts { IfOk result (λ text. Acts self.old self.new 0 (command.Deliver number) text.items) }
     {
-        deliver(alloc, &mut self.nodes, self.press.outlet(), number)
+        let said = deliver(alloc, &mut self.nodes, self.press.outlet(), number)?;
+        let text = text_of(alloc, &said)?;
+        Ok(text)
     }
 
     fn get(
@@ -116,14 +176,16 @@ impl Session {
         ensures acts { IfOk result (λ text. Acts self.old self.new 0
             (command.Get number pass path.now) text.items) }
     {
-        get(
+        let said = get(
             alloc,
             &mut self.nodes,
             self.press.outlet(),
             number,
             pass,
             path,
-        )
+        )?;
+        let text = text_of(alloc, &said)?;
+        Ok(text)
     }
 
     fn evict(&mut self, alloc: Global, number: u16, path: &Path) -> Result<Vec<u8>, NoMemory>
@@ -133,11 +195,13 @@ impl Session {
         ensures acts { IfOk result (λ text. Acts self.old self.new 0
             (command.Evict number path.now) text.items) }
     {
-        evict(alloc, &mut self.nodes, number, path)
+        let said = evict(&mut self.nodes, number, path);
+        let text = text_of(alloc, &said)?;
+        Ok(text)
     }
 
-    /// Does a command and gives its answer. A commit and a settle cost what they cost the press, a request
-    /// and a delivery what they cost the node. After want of memory the session is of no use any more.
+    /// Does a command and gives what is written of it. A commit and a settle cost what they cost the press, a
+    /// request and a delivery what they cost the node. After want of memory the session is of no use any more.
     pub(crate) fn act<R: Threads + Sync>(
         &mut self,
         rt: &R,
@@ -165,8 +229,8 @@ impl Session {
             Command::Get { node, pass, path } => self.get(alloc, node, pass, &path),
             Command::Evict { node, path } => self.evict(alloc, node, &path),
             Command::Status => self.status(alloc),
-            Command::NotBuilt => Ok(not_built(alloc, at_line)?.into_bytes()),
-            Command::Bad => Ok(bad_line(alloc, at_line)?.into_bytes()),
+            Command::NotBuilt => text_of(alloc, &Said::NotBuilt(at_line)),
+            Command::Bad => text_of(alloc, &Said::BadLine(at_line)),
         }
     }
 }

@@ -1,6 +1,6 @@
 use Rattle.std.proofs.Common.{refl, rules, []}
 use Rattle.std.specs.Prelude.{Ok}
-use Rattle.dup_main.specs.Commands.{command_of}
+use Rattle.dup_script.specs.Commands.{command_of}
 use Rattle.dup_transcript.specs.declared.task.Task.TheVariants.{Play}
 use Rattle.dup_main.proofs.WholeRuns.{reads_from, stopped_by_site, stopped_in_site, with_script, without_script, ended_without_script, count_with_script, written_by_script, stopped_by_script, does_play}
 use Rattle.std.proofs.KnownBytes.{Appends-nil}

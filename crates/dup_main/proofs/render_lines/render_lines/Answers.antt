@@ -1,7 +1,7 @@
 use Rattle.std.proofs.Common.{refl, ap, ◌∙◌, Err, rules}
 use Rattle.dup_io.specs.Lines.{number_of}
 use Rattle.dup_io.specs.declared.lines.LineFault.{LineFault}
-use Rattle.dup_main.specs.Commands.{command_of}
+use Rattle.dup_script.specs.Commands.{command_of}
 use Rattle.dup_model.proofs.GoodSites.{good_jobs_fit}
 use Rattle.dup_transcript.specs.Transcript.{RendersLines}
 use Rattle.dup_main.proofs.CutScripts.{stops_in_script, stops_on_write}

@@ -1,6 +1,6 @@
 use Rattle.std.proofs.Common.{ap, refl, rules, []}
 use Rattle.std.proofs.KnownBytes.{Appends-nil}
-use Rattle.dup_main.specs.Commands.{command_of}
+use Rattle.dup_script.specs.Commands.{command_of}
 use Rattle.dup_transcript.specs.RenderedPages.{rendered_pages}
 use Rattle.dup_transcript.specs.Transcript.{RendersLines}
 use Rattle.dup_transcript.specs.declared.task.Task.TheVariants.{Render}

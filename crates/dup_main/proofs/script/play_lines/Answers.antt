@@ -7,7 +7,7 @@ use Rattle.dup_main.proofs.SiteSoFar.{due_of}
 use Rattle.dup_io.specs.Lines.{number_of}
 use Rattle.dup_model.specs.Journal.{usual_limits}
 use Rattle.dup_main.specs.Kept.{standing}
-use Rattle.dup_main.specs.Commands.{command_of}
+use Rattle.dup_script.specs.Commands.{command_of}
 use Rattle.dup_transcript.specs.Turns.{Turns, Writes, first_standing}
 use Rattle.dup_main.proofs.script.play_lines.Goals as goal
 

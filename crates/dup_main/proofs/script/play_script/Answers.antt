@@ -2,7 +2,7 @@ use Rattle.std.proofs.Common.{subst}
 use Rattle.std.specs.Prelude.{IfErr}
 use Rattle.dup_io.specs.Lines.{number_of, to_read}
 use Rattle.dup_template.specs.declared.site.Parts.{Parts}
-use Rattle.dup_main.specs.Commands.{command_of}
+use Rattle.dup_script.specs.Commands.{command_of}
 use Rattle.dup_main.specs.Stops.{StopsInScript}
 use Rattle.dup_transcript.specs.Turns.{Writes, first_standing}
 use Rattle.dup_main.proofs.script.play_script.Goals as goal

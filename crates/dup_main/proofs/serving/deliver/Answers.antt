@@ -1,6 +1,7 @@
-use Rattle.std.proofs.Common.{ap, rules, sym}
+use Rattle.std.proofs.Common.{ap, refl, sym}
 use Rattle.std.specs.Prelude.{is_some}
 use Rattle.std.proofs.lemmas.Result.{IfOk-weaker}
+use Rattle.dup_script.specs.Answers.{said_text}
 use Rattle.dup_main.proofs.Caches.{none_delivers, one_delivers}
 use Rattle.dup_main.proofs.serving.deliver.Goals as goal
 
@@ -9,10 +10,10 @@ returns-in-Some-clause-turns c =
     let after = c.bring_up.new.node in
     let puts = (c.get_mut.follows.holds after).3 (ap is_some (sym c.in-Some.ensures.value)) in
     IfOk-weaker c.bring_up.result _ _
-    (λ text delivers. one_delivers c.args.edition.now.log c.args.nodes.now (c.get_mut.follows.lender after) c.args.number text.items c.in-Some.node.now after (sym c.in-Some.ensures.value) puts delivers)
+    (λ said delivers. one_delivers c.args.edition.now.log c.args.nodes.now (c.get_mut.follows.lender after) c.args.number (said_text said) c.in-Some.node.now after (sym c.in-Some.ensures.value) puts delivers)
     c.bring_up.ensures.delivers
 
-pub returns-in_ok-no_node_text-in-None-clause-turns : goal.returns-in_ok-no_node_text-in-None-clause-turns
-returns-in_ok-no_node_text-in-None-clause-turns c =
-    none_delivers c.args.edition.now.log c.args.nodes.now c.get_mut.follows.lender-at-none c.args.number c.into_bytes.result.items (sym c.in-None.ensures.value)
-    (ap (λ m. m.entries) c.get_mut.follows.holds-at-none) (search rules)
+pub returns-in-None-clause-turns : goal.returns-in-None-clause-turns
+returns-in-None-clause-turns c =
+    none_delivers c.args.edition.now.log c.args.nodes.now c.get_mut.follows.lender-at-none c.args.number _ (sym c.in-None.ensures.value)
+    (ap (λ m. m.entries) c.get_mut.follows.holds-at-none) refl

@@ -1,6 +1,7 @@
-use Rattle.std.proofs.Common.{ap, rules, sym}
+use Rattle.std.proofs.Common.{ap, refl, sym}
 use Rattle.std.specs.Prelude.{is_some}
 use Rattle.std.proofs.lemmas.Result.{IfOk-weaker}
+use Rattle.dup_script.specs.Answers.{said_text}
 use Rattle.dup_main.proofs.Caches.{holds_with, none_gets, one_gets}
 use Rattle.dup_main.proofs.serving.get.Goals as goal
 
@@ -15,11 +16,11 @@ returns-in-Some-clause-turns c =
     let after = c.serve.new.node in
     let puts = (c.get_mut.follows.holds after).3 (ap is_some (sym c.in-Some.ensures.value)) in
     IfOk-weaker c.serve.result _ _
-    (λ text serves. one_gets c.args.edition.now.log c.args.nodes.now (c.get_mut.follows.lender after) c.args.number text.items c.in-Some.node.now after (sym c.in-Some.ensures.value) puts
+    (λ said serves. one_gets c.args.edition.now.log c.args.nodes.now (c.get_mut.follows.lender after) c.args.number (said_text said) c.in-Some.node.now after (sym c.in-Some.ensures.value) puts
     c.args.pass c.args.path.now serves)
     c.serve.ensures.serves
 
-pub returns-in_ok-no_node_text-in-None-clause-turns : goal.returns-in_ok-no_node_text-in-None-clause-turns
-returns-in_ok-no_node_text-in-None-clause-turns c =
-    none_gets c.args.edition.now.log c.args.nodes.now c.get_mut.follows.lender-at-none c.args.number c.into_bytes.result.items (sym c.in-None.ensures.value)
-    (ap (λ m. m.entries) c.get_mut.follows.holds-at-none) (search rules) c.args.pass c.args.path.now
+pub returns-in-None-clause-turns : goal.returns-in-None-clause-turns
+returns-in-None-clause-turns c =
+    none_gets c.args.edition.now.log c.args.nodes.now c.get_mut.follows.lender-at-none c.args.number _ (sym c.in-None.ensures.value)
+    (ap (λ m. m.entries) c.get_mut.follows.holds-at-none) refl c.args.pass c.args.path.now

@@ -1,5 +1,5 @@
 use Rattle.std.proofs.Common.{subst}
-use Rattle.dup_main.specs.Commands.{HasRoom}
+use Rattle.dup_script.specs.Commands.{HasRoom}
 use Rattle.dup_main.proofs.session.Session.act.Goals as goal
 
 pub add_node-requires : goal.add_node-requires

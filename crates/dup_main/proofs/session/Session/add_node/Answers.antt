@@ -1,5 +1,6 @@
-use Rattle.std.proofs.Common.{refl}
-use Rattle.std.proofs.lemmas.Result.{IfOk-weaker, on_ok_weaker}
+use Rattle.std.proofs.Common.{refl, subst, sym}
+use Rattle.dup_names.specs.Words.{Word}
+use Rattle.dup_main.specs.Serving.{TurnsNodes}
 use Rattle.dup_transcript.specs.declared.command.Command.TheVariants as command
 use Rattle.dup_main.proofs.Acting.{nodes_act, nodes_sound}
 use Rattle.dup_main.proofs.session.Session.add_node.Goals as goal
@@ -7,11 +8,11 @@ use Rattle.dup_main.proofs.session.Session.add_node.Goals as goal
 pub returns-clause-sound : goal.returns-clause-sound
 returns-clause-sound c =
     let log = c.args.self.now.press.log in
-    on_ok_weaker c.add_node.result (λ holds. nodes_sound c.args.self.now c.add_node.new.nodes log refl c.requires.sound (holds log c.requires.sound.holds)) c.add_node.ensures.holds
+    nodes_sound c.args.self.now c.add_node.new.nodes log refl c.requires.sound (c.in_ok-said.ensures.holds log c.requires.sound.holds)
 
 pub returns-clause-acts : goal.returns-clause-acts
 returns-clause-acts c =
     let log = c.args.self.now.press.log in
-    IfOk-weaker c.add_node.result _ _
-    (λ text turns. nodes_act c.args.self.now c.add_node.new.nodes (command.Node c.args.number c.args.capacity c.args.mode) text.items log refl (turns log))
-    c.add_node.ensures.turns
+    let asked = command.Node c.args.number c.args.capacity c.args.mode in
+    nodes_act c.args.self.now c.add_node.new.nodes asked c.in_ok-text.text.items log refl
+    (subst (λ (t : Word). TurnsNodes log c.args.self.now.nodes asked t c.add_node.new.nodes) (sym c.in_ok-text.ensures) (c.in_ok-said.ensures.turns log))

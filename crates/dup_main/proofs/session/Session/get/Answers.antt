@@ -1,18 +1,17 @@
 use Rattle.std.proofs.Common.{subst, sym}
-use Rattle.std.proofs.lemmas.Result.{IfOk-weaker}
-use Rattle.dup_main.specs.Serving.{AllHold}
+use Rattle.dup_names.specs.Words.{Word}
+use Rattle.dup_main.specs.Serving.{AllHold, TurnsNodes}
 use Rattle.dup_transcript.specs.declared.command.Command.TheVariants as command
-use Rattle.dup_main.proofs.Acting.{always_ok, nodes_act, nodes_sound}
+use Rattle.dup_main.proofs.Acting.{nodes_act, nodes_sound}
 use Rattle.dup_main.proofs.session.Session.get.Goals as goal
 
 pub get-requires : goal.get-requires
 get-requires c = subst (AllHold c.args.self.now.nodes) (sym c.outlet.ensures.log) c.requires.holds
 
 pub returns-clause-sound : goal.returns-clause-sound
-returns-clause-sound c = always_ok c.get.result (nodes_sound c.args.self.now c.get.new.nodes c.outlet.result.now.log c.outlet.ensures.log c.requires c.get.ensures.holds)
+returns-clause-sound c = nodes_sound c.args.self.now c.get.new.nodes c.outlet.result.now.log c.outlet.ensures.log c.requires c.get.ensures.holds
 
 pub returns-clause-acts : goal.returns-clause-acts
 returns-clause-acts c =
-    IfOk-weaker c.get.result _ _
-    (λ text turns. nodes_act c.args.self.now c.get.new.nodes (command.Get c.args.number c.args.pass c.args.path.now) text.items c.outlet.result.now.log c.outlet.ensures.log turns)
-    c.get.ensures.turns
+    nodes_act c.args.self.now c.get.new.nodes (command.Get c.args.number c.args.pass c.args.path.now) c.in_ok-text.text.items c.outlet.result.now.log c.outlet.ensures.log
+    (subst (λ (t : Word). TurnsNodes c.outlet.result.now.log c.args.self.now.nodes (command.Get c.args.number c.args.pass c.args.path.now) t c.get.new.nodes) (sym c.in_ok-text.ensures) c.in_ok-said.ensures.turns)

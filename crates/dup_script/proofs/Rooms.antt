@@ -1,17 +1,16 @@
 -- The capacity that a line commands is one that a cache can have.
-use Rattle.std.proofs.Common.{◌≡◌, inl, inr, true, sym, subst, arith}
+use Rattle.std.proofs.Common.{◌≡◌, inl, inr, sym, subst, arith}
 use Rattle.std.specs.Prelude.{Result, Ok, Err}
 use Rattle.std.proofs.lemmas.Bool.Decides.{nat_tests}
 use Rattle.dup_names.specs.Words.{Word}
 use Rattle.dup_model.specs.Commits.{Commit}
 use Rattle.dup_model.specs.declared.feed_refusal.FeedRefusal.{FeedRefusal}
 use Rattle.dup_feed.specs.Feed.{feed_says}
-use Rattle.dup_transcript.specs.declared.command.Command.TheVariants as command
-use Rattle.dup_transcript.specs.Commands.{Command, is_capacity, of_message}
+use Rattle.dup_transcript.specs.Commands.{Command, of_message}
 use Rattle.dup_transcript.specs.OnlyTable.{IsInTable}
 use Rattle.dup_transcript.specs.OnlyTable.IsInTable.{alone, blank, comment, commit, settle, status, node, deliver, get, evict, with_slot}
 use Rattle.dup_transcript.proofs.OnlyTable.{only_the_table}
-use Rattle.dup_main.specs.Commands.{HasRoom, command_of}
+use Rattle.dup_script.specs.Commands.{HasRoom, command_of}
 
 of_a_message : (m : Result Commit FeedRefusal) → HasRoom (of_message m)
 of_a_message (Ok said) = tt

@@ -1,6 +1,6 @@
 use Rattle.std.proofs.Common.{◌∙◌, sym, arith, rules}
-use Rattle.dup_main.proofs.NumberLemmas.{overflows, all_read}
-use Rattle.dup_main.proofs.number.read_number.Goals as goal
+use Rattle.dup_script.proofs.NumberLemmas.{overflows, all_read}
+use Rattle.dup_script.proofs.number.read_number.Goals as goal
 
 pub returns-in_err-checked_mul : goal.returns-in_err-checked_mul
 returns-in_err-checked_mul c = search rules ∙ sym (overflows _ _ c.loop-byte.value c.loop-byte-test.true c.loop-byte.invariant.value (omega (arith, c.in_err-checked_mul.ensures)))

@@ -2,7 +2,7 @@ ghost use Rattle.std.specs.Prelude.{◌≡◌, IfOk, IsTrue, length};
 ghost use Rattle.std.specs.Option.{option_copied};
 ghost use Rattle.dup_feed.specs.Feed.{feed_says};
 ghost use Rattle.dup_template.specs.Good.{behind};
-ghost use Rattle.dup_main.specs.Commands.{HasRoom, command_of, seen};
+ghost use Rattle.dup_script.specs.Commands.{HasRoom, command_of, seen};
 ghost use Rattle.dup_transcript.specs.Commands.{by_message, by_start, by_words, comes_alone, comes_with_slot, deliver_command, evict_command, four_words, get_command, if_more, message_of, mode_of, node_command, of_message, one_word, slot_command, three_words, two_words};
 ghost use Rattle.dup_transcript.specs.Numbers.{number_of};
 
@@ -196,7 +196,7 @@ fn by_start(alloc: Global, text: &[u8]) -> Result<Command<Commit>, NoMemory>
 }
 
 /// The command of a line.
-pub(crate) fn read_command(alloc: Global, text: &[u8]) -> Result<Command<Commit>, NoMemory>
+pub fn read_command(alloc: Global, text: &[u8]) -> Result<Command<Commit>, NoMemory>
     ensures command { IfOk result (λ command. command ≡ command_of text.now) }
     ensures room { IfOk result HasRoom }
 {

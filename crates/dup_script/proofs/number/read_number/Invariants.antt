@@ -2,7 +2,7 @@ use Rattle.std.proofs.Common.{◌≡◌, ◌<◌, ◌^◌, drop}
 use Rattle.std.specs.List.{list_all}
 use Rattle.dup_names.specs.Grammar.{is_digit}
 use Rattle.dup_transcript.specs.Numbers.{value_behind}
-use Rattle.dup_main.proofs.number.read_number.Given as goal
+use Rattle.dup_script.proofs.number.read_number.Given as goal
 
 abbrev pub invariant-loop-byte : goal.invariant-loop-byte
 invariant-loop-byte l = record {

@@ -2,8 +2,8 @@ use Rattle.std.proofs.Common.{◌∙◌, ap}
 use Rattle.std.proofs.lemmas.Result.{IfOk-weaker}
 use Rattle.dup_feed.specs.Feed.{feed_says}
 use Rattle.dup_transcript.specs.Commands.{by_start}
-use Rattle.dup_main.proofs.Rooms.{reads_room}
-use Rattle.dup_main.proofs.command.read_command.Goals as goal
+use Rattle.dup_script.proofs.Rooms.{reads_room}
+use Rattle.dup_script.proofs.command.read_command.Goals as goal
 
 pub returns-clause-room : goal.returns-clause-room
 returns-clause-room c =

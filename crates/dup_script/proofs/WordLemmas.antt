@@ -2,7 +2,7 @@
 use Rattle.std.proofs.Common.{◌≡◌, ◌≢◌, ℕ, List, [], ◌∷◌, refl, length, get_or, arith}
 use Rattle.std.specs.Borrow.{Bor}
 use Rattle.dup_transcript.specs.declared.command.Command.TheVariants.{Bad}
-use Rattle.dup_main.specs.Commands.{seen}
+use Rattle.dup_script.specs.Commands.{seen}
 use Rattle.dup_transcript.specs.Commands.{by_words, one_word, two_words, three_words, four_words}
 
 pub at_one : (ws : List (Bor (List ℕ))) (d : Bor (List ℕ)) → length ws ≡ 1 → one_word (get_or ws 0 d).now ≡ by_words (seen ws)

@@ -1,0 +1,5 @@
+mod NumberLemmas
+mod WordLemmas
+mod Rooms
+mod LineTexts
+pub mod RefusedTexts
