@@ -1,4 +1,4 @@
-use crate::{FeedRefusal, read_commit};
+use crate::{FeedRefusal, commit_text, read_commit};
 use std::alloc::{AllocError, Global};
 
 #[test]
@@ -81,4 +81,34 @@ fn changes_are_counted(rt: HostRuntime) {
     let over = many(alloc, 256).ok().expect(&rt, "memory");
     let refusal = read_commit(alloc, over.as_slice()).err();
     assert!(rt; refusal == Some(FeedRefusal::TooMany(257)));
+}
+
+#[test]
+fn commits_are_written(rt: HostRuntime) {
+    let alloc = rt.alloc();
+    let rows: [(&str, &str); 4] = [
+        (
+            "{\"changes\":[{\"put\":\"event\",\"key\":\"e1\",\"fields\":{\"title\":\"100m\"}}]}",
+            "{\"changes\":[{\"fields\":{\"title\":\"100m\"},\"key\":\"e1\",\"put\":\"event\"}]}",
+        ),
+        (
+            "{\"changes\":[{\"put\":\"event\",\"key\":\"e-1\",\"fields\":{}},{\"remove\":\"event\",\"key\":\"e1\"}]}",
+            "{\"changes\":[{\"fields\":{},\"key\":\"e-1\",\"put\":\"event\"},{\"key\":\"e1\",\"remove\":\"event\"}]}",
+        ),
+        (
+            "{\"changes\":[{\"template\":\"t\",\"body\":[\"# none\",\"if  a\",\"= \\u0022 b\",\"end\"]}]}",
+            "{\"changes\":[{\"body\":[\"if a\",\"= \\\" b\",\"end\"],\"template\":\"t\"}]}",
+        ),
+        (
+            "{\"changes\":[{\"put\":\"k\",\"key\":\"a\",\"fields\":{\"b\":\"\\u00e9\\u0001\",\"a\":\"/\\n\"}}]}",
+            "{\"changes\":[{\"fields\":{\"a\":\"/\\n\",\"b\":\"é\\u0001\"},\"key\":\"a\",\"put\":\"k\"}]}",
+        ),
+    ];
+    for (read, written) in rows {
+        let commit = read_commit(alloc, read.as_bytes())
+            .ok()
+            .expect(&rt, "a commit");
+        let text = commit_text(alloc, &commit).ok().expect(&rt, "memory");
+        assert!(rt; text.as_slice() == written.as_bytes(), "{written}");
+    }
 }

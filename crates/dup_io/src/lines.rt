@@ -3,7 +3,7 @@ ghost use Rattle.std.specs.Prelude.{◌≡◌, ◌≢◌, ◌≤◌, ◌∷◌, 
 ghost use Rattle.std.specs.Prelude.{IsErrOf, IsNone, Err};
 ghost use Rattle.std.specs.Io.KnownBytes.{Consumes, IsAtEnd, Keeps};
 ghost use Rattle.dup_io.specs.Causes.{HasCause, Rose};
-ghost use Rattle.dup_io.specs.Readings.{GivesLine, IsReading};
+ghost use Rattle.dup_io.specs.Readings.{GivesLine, IsReading, StopsInLine};
 ghost use Rattle.dup_names.specs.Lines.{LongInput, LongLine, Whole, max_input};
 ghost use Rattle.std.specs.Str.Lines.{strip_carriage_return};
 ghost use Rattle.dup_io.specs.declared.lines.LineFault.TheVariants.{NoMemory, ReadFault};
@@ -112,6 +112,7 @@ impl<'s, S: Source> Lines<'s, S> {
         ensures kept { Keeps (ahead S.left self.old) (ahead S.left self.new) }
         ensures some { OnOk result (self.new.start ≡ self.new.end → IsAtEnd (ahead S.left self.new)) }
         ensures at_end { OnOk result (self.new.start ≡ self.new.end → IsAtEnd (S.left self.new.source.now)) }
+        ensures empty { OnErr result (ahead S.left self.new ≡ S.left self.new.source.now) }
         ensures cause { HasCause (S.faults self.old.source.now) (S.faults self.new.source.now) result }
         ensures beside { S.beside self.old.source.now self.new.source.now }
         ensures number { self.new.number ≡ self.old.number }
@@ -136,6 +137,8 @@ impl<'s, S: Source> Lines<'s, S> {
             IsNone o → Keeps (ahead S.left self.old) (ahead S.left self.new)
             × IsAtEnd (ahead S.left self.new)) }
         ensures at_end { IfOk result (λ o. IsNone o → IsAtEnd (S.left self.new.source.now)) }
+        ensures kept { OnErr result (Keeps (ahead S.left self.old) (ahead S.left self.new)) }
+        ensures empty { OnErr result (ahead S.left self.new ≡ S.left self.new.source.now) }
         ensures cause { HasCause (S.faults self.old.source.now) (S.faults self.new.source.now) result }
         ensures beside { S.beside self.old.source.now self.new.source.now }
         ensures number { self.new.number ≡ self.old.number }
@@ -168,6 +171,8 @@ impl<'s, S: Source> Lines<'s, S> {
             → IsReading (to_read S.left self.old) LongInput }
         ensures read_fault { IsErrOf result LineFault.ReadFault
             → Rose (S.faults self.old.source.now) (S.faults self.new.source.now) }
+        ensures read_within { IsErrOf result LineFault.ReadFault
+            → StopsInLine (to_read S.left self.old) (S.left self.new.source.now) }
         ensures faults { S.faults self.old.source.now ≤ S.faults self.new.source.now }
         ensures no_fault { result ≢ Err LineFault.ReadFault
             → S.faults self.new.source.now ≡ S.faults self.old.source.now }
@@ -224,6 +229,8 @@ impl<'s, S: Source> Lines<'s, S> {
             → IsReading (to_read S.left self.old) LongInput }
         ensures read_fault { fault_of self.old ≡ None → IsErrOf result LineFault.ReadFault
             → Rose (S.faults (source_of self.old)) (S.faults (source_of self.new)) }
+        ensures read_within { fault_of self.old ≡ None → IsErrOf result LineFault.ReadFault
+            → StopsInLine (to_read S.left self.old) (S.left (source_of self.new)) }
         ensures faults { S.faults (source_of self.old) ≤ S.faults (source_of self.new) }
         ensures no_fault { result ≢ Err LineFault.ReadFault
             → S.faults (source_of self.new) ≡ S.faults (source_of self.old) }

@@ -1,9 +1,12 @@
-pub mod Acting
-pub mod Caches
+pub mod Breaks
+pub mod Endings
+pub mod LinesSoFar
+pub mod Prefixes
 pub mod CutScripts
 pub mod PageJobs
 pub mod RenderSoFar
 pub mod ScriptSoFar
+pub mod Turning
 pub mod SiteSoFar
 pub mod WholeRuns
 pub mod Reached

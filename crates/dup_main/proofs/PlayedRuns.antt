@@ -41,7 +41,7 @@ played_runs asked input old new status is w =
     play_runs input old new status (subst (λ o. IsSomeAnd o (λ task. WritesTranscript task input old new status)) is w)
 
 -- a stop whose line was written ends a transcript
-line_written : (task : Task) (stop : Stop) (input old mid new : Option Word) (status : ℕ) → StopsAt task stop input old mid →
+pub line_written : (task : Task) (stop : Stop) (input old mid new : Option Word) (status : ℕ) → StopsAt task stop input old mid →
     writes stop ≡ true → status ≡ stop_status stop → Appends mid new (stop_text stop) → WritesTranscript task input old new status
 line_written task stop None old mid new status stops due is grows = tt
 line_written task stop (Some input) old mid new status stops due is grows =

@@ -26,7 +26,7 @@ abbrev pub Reads : Option Word → Option Reading → Type 0
 Reads left r = r ≡ option_map (reading 0 0) left
 
 -- a transcript of a site text that was read
-of_site : (task : Task) (all rest : Reading) (text : Word) (site : Result Parts Word) (kept : List Bool) (status : ℕ) (out : Word) → IsSiteText all rest text → site_for grammars text ≡ site
+pub of_site : (task : Task) (all rest : Reading) (text : Word) (site : Result Parts Word) (kept : List Bool) (status : ℕ) (out : Word) → IsSiteText all rest text → site_for grammars text ≡ site
     → DoesSite grammars task site all kept status out → IsTranscript grammars task all status out
 of_site task all rest text site kept status out t is d =
     let at_text : DoesSite grammars task (site_for grammars (site_text all)) all kept status out =

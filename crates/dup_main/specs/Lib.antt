@@ -1,8 +1,7 @@
+pub mod Breaks
 pub mod Faults
-pub mod Kept
 pub mod LineStops
 pub mod Reach
-pub mod Serving
 pub mod Stops
 pub mod Taken
 pub mod Tasks

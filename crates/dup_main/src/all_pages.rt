@@ -2,6 +2,7 @@
 ghost use Rattle.std.specs.Prelude.{◌≡◌, ◌≢◌, ◌⊎◌, IfErr, IfOk, IsErrOf, OnOk, Err};
 ghost use Rattle.std.specs.Io.KnownBytes.{Appends};
 ghost use Rattle.dup_io.specs.Causes.{Rose};
+ghost use Rattle.dup_main.specs.Breaks.{BreaksPages};
 ghost use Rattle.dup_main.specs.Faults.{FaultHasCause};
 ghost use Rattle.dup_model.specs.Jobs.{IsJob, JobsFit};
 ghost use Rattle.dup_transcript.specs.RenderedPages.{rendered_page, rendered_pages};
@@ -38,6 +39,8 @@ pub(crate) fn put_pages<K: Sink>(alloc: Global, content: &Content, out: &mut K) 
     ensures written { OnOk result (Appends (K.written out.old) (K.written out.new)
         (rendered_pages content.now)) }
     ensures stopped { IfErr result (λ stop. (stop ≡ Stop.NoMemory) ⊎ (stop ≡ Stop.WriteFault)) }
+    ensures breaks { IfErr result (λ stop.
+        BreaksPages stop content.now (K.written out.old) (K.written out.new)) }
     ensures writes { FaultHasCause result Stop.WriteFault (K.faults out.old) (K.faults out.new) }
 {
     let made = pages(alloc, content)?;

@@ -1,6 +1,7 @@
 ghost use Rattle.std.specs.Prelude.{◌≡◌, ◌≢◌, OnOk, IfErr, IsErrOf, Err};
 ghost use Rattle.dup_io.specs.Causes.{Rose};
 ghost use Rattle.dup_transcript.specs.declared.task.Task.TheVariants.{Check};
+ghost use Rattle.dup_main.specs.Breaks.{Breaks};
 ghost use Rattle.dup_main.specs.Faults.{FaultHasCause};
 ghost use Rattle.dup_main.specs.Reach.{ReadsNoFurther};
 ghost use Rattle.dup_main.specs.Stops.{StopsAt};
@@ -24,6 +25,8 @@ pub(crate) fn check_site<S: Source, K: Sink>(
     ensures no_further { OnOk result (ReadsNoFurther (S.left input.old) (S.left input.new)) }
     ensures stopped { IfErr result (λ stop. StopsAt Check stop (S.left input.old) (K.written out.old)
         (K.written out.new)) }
+    ensures breaks { IfErr result (λ stop. Breaks Check stop (S.left input.old) (S.left input.new)
+        (K.written out.old) (K.written out.new)) }
     ensures reads { FaultHasCause result Stop.ReadFault (S.faults input.old) (S.faults input.new) }
     ensures writes { FaultHasCause result Stop.WriteFault (K.faults out.old) (K.faults out.new) }
 {

@@ -1,6 +1,7 @@
 ghost use Rattle.std.specs.Prelude.{◌≡◌, ◌≢◌, ◌⊎◌, IfErr, IfOk, IsErrOf, IsSome, IsSomeAnd, None, OnOk, Some, Err, string_bytes, true};
 ghost use Rattle.std.specs.Io.KnownBytes.{Appends, IsAtEnd};
-ghost use Rattle.dup_io.specs.Causes.{Rose};
+ghost use Rattle.dup_io.specs.Causes.{AppendsPrefix, Rose};
+ghost use Rattle.dup_main.specs.Breaks.{Breaks, IsGoodInput, WritesBroken, WritesPartOf, WritesReadFault, last_line, read_fault};
 ghost use Rattle.dup_main.specs.Faults.{FaultHasCause};
 ghost use Rattle.dup_main.specs.Reach.{ReadsNoFurther};
 ghost use Rattle.dup_main.specs.Stops.{StopsAt, stop_status, stop_text, writes};
@@ -48,6 +49,7 @@ fn end<K: Sink>(out: &mut K, status: u8, text: &[u8]) -> u8
     ensures done { result ≢ 4 → (result ≡ status) × (K.faults out.new ≡ K.faults out.old)
         × Appends (K.written out.old) (K.written out.new) text.now }
     ensures fault { result ≡ 4 → Rose (K.faults out.old) (K.faults out.new) }
+    ensures part { result ≡ 4 → AppendsPrefix (K.written out.old) (K.written out.new) text.now }
     ensures either { (result ≡ 4) ⊎ (result ≡ status) }
 {
     match put_all(out, text) {
@@ -65,6 +67,10 @@ fn finish<K: Sink>(alloc: Global, out: &mut K, stop: Stop) -> u8
     ensures fault { result ≡ 4 → (stop ≡ Stop.WriteFault) ⊎ Rose (K.faults out.old) (K.faults out.new) }
     ensures write { stop ≡ Stop.WriteFault → (result ≡ 4) × (K.faults out.new ≡ K.faults out.old) }
     ensures no_fault { result ≢ 4 → K.faults out.new ≡ K.faults out.old }
+    ensures reading { result ≡ 3 → Appends (K.written out.old) (K.written out.new) read_fault }
+    ensures part { result ≡ 4 → stop ≢ Stop.NoMemory
+        × AppendsPrefix (K.written out.old) (K.written out.new) (last_line stop) }
+    ensures nothing { result ≡ 6 → K.written out.new ≡ K.written out.old }
     ensures others { (result ≡ 3) ⊎ (result ≡ 4) ⊎ (result ≡ 5) ⊎ (result ≡ 6) ⊎ (result ≡ 7) }
 {
     match stop {
@@ -98,6 +104,8 @@ fn perform<R: Threads + Sync, S: Source, K: Sink>(
         ReadsNoFurther (S.left input.old) (S.left input.new)) }
     ensures stopped { IfErr result (λ stop. StopsAt task stop (S.left input.old) (K.written out.old)
         (K.written out.new)) }
+    ensures breaks { IfErr result (λ stop. Breaks task stop (S.left input.old) (S.left input.new)
+        (K.written out.old) (K.written out.new)) }
     ensures reads { FaultHasCause result Stop.ReadFault (S.faults input.old) (S.faults input.new) }
     ensures writes { FaultHasCause result Stop.WriteFault (K.faults out.old) (K.faults out.new) }
 {
@@ -154,6 +162,22 @@ pub fn desk_main<R: Threads + Sync, S: Source, K: Sink>(
     ensures no_read_fault { result ≢ 3 → result ≢ 4 → S.faults input.new ≡ S.faults input.old }
     ensures no_write_fault { result ≢ 4 → K.faults out.new ≡ K.faults out.old }
     ensures memory { result ≡ 6 → IsSome (task_of words.now) }
+    // At a fault of reading what was read in whole lines is answered before the line on the fault. At a fault of
+    // writing a part stands of what the same input gives without it. Where memory ran out, the output for some
+    // first lines stands, each answer whole.
+    ensures read_fault_line { result ≡ 3 →
+        IsSomeAnd (task_of words.now)
+        (λ task. WritesReadFault task (S.left input.old) (S.left input.new) (K.written out.old)
+        (K.written out.new)) }
+    ensures part { result ≡ 4 → WritesPartOf (task_of words.now) (S.left input.old) (S.left input.new)
+        (K.written out.old) (K.written out.new) }
+    ensures broken { result ≡ 6 →
+        IsSomeAnd (task_of words.now)
+        (λ task. WritesBroken task (S.left input.old) (K.written out.old) (K.written out.new)) }
+    // With a good site, and lines and input within the limits, the status is 0, if nothing fails and memory
+    // suffices.
+    ensures complete { IsSomeAnd (task_of words.now) (λ task. IsGoodInput task (S.left input.old)) →
+        (result ≢ 2) × (result ≢ 5) × (result ≢ 7) }
     // The headline: what `play` writes for a script is what the machine replies to some events. Of their run
     // its four clauses hold, and behind each settle nothing is pending. They hold of every list of events,
     // too.

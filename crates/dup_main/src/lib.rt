@@ -9,8 +9,6 @@ mod play;
 mod render_lines;
 mod render_site;
 mod script;
-mod serving;
-mod session;
 mod site_part;
 mod stop;
 mod task;

@@ -7,6 +7,7 @@ ghost use Rattle.dup_template.specs.Good.{IsGood};
 ghost use Rattle.dup_model.specs.Content.{start};
 ghost use Rattle.dup_model.specs.GoodSites.{IsGoodContent};
 ghost use Rattle.dup_transcript.specs.declared.command.Command.TheVariants as command;
+ghost use Rattle.dup_main.specs.Breaks.{BreaksScript, RenderBegins, RenderBreaks};
 ghost use Rattle.dup_main.specs.Faults.{FaultHasCause};
 ghost use Rattle.dup_main.specs.Taken.{Takes};
 ghost use Rattle.dup_script.specs.Commands.{command_of};
@@ -95,6 +96,9 @@ pub(crate) fn render_lines<'s, S: Source, K: Sink>(
     ensures stopped { IfErr result (λ stop. StopsInScript stop
         (RendersLines command_of site (number_of lines.old)) (to_read S.left lines.old)
         (K.written out.old) (K.written out.new)) }
+    ensures breaks { IfErr result (λ stop. BreaksScript stop (RenderBegins site (number_of lines.old))
+        (RenderBreaks site (number_of lines.old)) (RendersLines command_of site (number_of lines.old))
+        (to_read S.left lines.old) (S.left (source_of lines.new)) (K.written out.old) (K.written out.new)) }
     ensures reads { FaultHasCause result Stop.ReadFault (S.faults (source_of lines.old)) (S.faults (source_of lines.new)) }
     ensures writes { FaultHasCause result Stop.WriteFault (K.faults out.old) (K.faults out.new) }
 {

@@ -2,6 +2,7 @@ ghost use Rattle.std.specs.Prelude.{◌≡◌, ◌≢◌, OnOk, IfErr, IsErrOf, 
 ghost use Rattle.std.specs.Io.KnownBytes.{IsAtEnd};
 ghost use Rattle.dup_io.specs.Causes.{Rose};
 ghost use Rattle.dup_transcript.specs.declared.task.Task.TheVariants.{Render};
+ghost use Rattle.dup_main.specs.Breaks.{Breaks};
 ghost use Rattle.dup_main.specs.Faults.{FaultHasCause};
 ghost use Rattle.dup_main.specs.Stops.{StopsAt};
 ghost use Rattle.dup_main.specs.Transcript.{WritesTranscript};
@@ -24,6 +25,8 @@ pub(crate) fn render_site<S: Source, K: Sink>(
     ensures at_end { OnOk result (IsAtEnd (S.left input.new)) }
     ensures stopped { IfErr result (λ stop. StopsAt Render stop (S.left input.old) (K.written out.old)
         (K.written out.new)) }
+    ensures breaks { IfErr result (λ stop. Breaks Render stop (S.left input.old) (S.left input.new)
+        (K.written out.old) (K.written out.new)) }
     ensures reads { FaultHasCause result Stop.ReadFault (S.faults input.old) (S.faults input.new) }
     ensures writes { FaultHasCause result Stop.WriteFault (K.faults out.old) (K.faults out.new) }
 {

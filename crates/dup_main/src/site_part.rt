@@ -6,6 +6,7 @@ ghost use Rattle.dup_io.specs.Causes.{Rose};
 ghost use Rattle.dup_io.specs.Lines.{to_read, source_of, reference_of, number_of, fault_of};
 ghost use Rattle.dup_names.specs.Lines.{line as line_text};
 ghost use Rattle.dup_main.specs.Faults.{FaultHasCause};
+ghost use Rattle.dup_main.specs.Breaks.{BreaksSite, EndsSite};
 ghost use Rattle.dup_main.specs.Stops.{BarsSite, CountsSite, ReadsSite, StopsInSite};
 ghost use Rattle.dup_site.specs.Reads.{site_says};
 ghost use Rattle.dup_transcript.specs.BadSites.{or_cause};
@@ -51,9 +52,12 @@ pub(crate) fn read_site_text<'s, S: Source>(
         (if read.has_script then to_read S.left lines.new else Some Whole) read.text.items) }
     ensures lines { IfOk result (λ read. OnTrue read.has_script
         (CountsSite (to_read S.left lines.old) (number_of lines.old) (number_of lines.new))) }
+    ensures ends { IfOk result (λ read. OnTrue read.has_script (EndsSite (to_read S.left lines.old))) }
     ensures at_end { IfOk result (λ read. OnFalse read.has_script (IsAtEnd (S.left (source_of lines.new)))) }
     ensures no_stop { OnOk result (fault_of lines.new ≡ None) }
     ensures stopped { IfErr result (λ stop. StopsInSite stop (to_read S.left lines.old)) }
+    ensures breaks { IfErr result (λ stop.
+        BreaksSite stop (to_read S.left lines.old) (S.left (source_of lines.new))) }
     ensures reads { FaultHasCause result Stop.ReadFault (S.faults (source_of lines.old)) (S.faults (source_of lines.new)) }
 {
     let mut text = Vec::new(alloc);

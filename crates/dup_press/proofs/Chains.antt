@@ -65,7 +65,7 @@ module _ (site : Parts) (limits : Limits) where
     unfolding in_hand held emptied
     put_goes = ap (λ (s : Option Slot). put_from site 0 s in_hand) (fin.get-insert nat_cmp_total w.slots 0 held 0)
 
-    turned : IsAt q (step site limits (step site limits w (Hand 0)) (Put 0))
+    pub turned : IsAt q (step site limits (step site limits w (Hand 0)) (Put 0))
     unfolding in_hand held emptied
     turned = subst (IsAt q) (sym (ap (λ (v : World). step site limits v (Put 0)) hand_goes ∙ put_goes)) (record {
       press = t.brought;
@@ -182,7 +182,7 @@ module _ (site : Parts) (limits : Limits) where
       until Publish (publish_on site) NothingChanged publishes publishing (λ w. refl) (λ w. refl) publishes_more (λ n w. fold-append (step site limits) w (publishes n) (Publish ∷ [])) p q w at u
 
   -- a step of the press by itself
-  one_step : (ev : Event) (f : Press → Told × Press) → ((w : World) → step site limits w ev ≡ replied (f (press_of w)) w) →
+  pub one_step : (ev : Event) (f : Press → Told × Press) → ((w : World) → step site limits w ev ≡ replied (f (press_of w)) w) →
       (p q : Press) (t : Told) (w : World) → IsAt p w → f p ≡ (t, q) → IsAt q (step site limits w ev) × LastTold (step site limits w ev) t
   one_step ev f acts p q t w at is =
       let there : step site limits w ev ≡ replied (t, q) w = acts w ∙ ap (λ (r : Told × Press). replied r w) (ap f at.press ∙ is) in

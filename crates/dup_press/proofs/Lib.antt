@@ -10,3 +10,4 @@ pub mod Looping
 pub mod Settled
 pub mod Outcomes
 pub mod Summaries
+pub mod Reaching

@@ -7,3 +7,4 @@ pub mod Press
 pub mod Told
 pub mod Settled
 pub mod Turns
+pub mod Reached

@@ -1,5 +1,5 @@
 // Settling.
-ghost use Rattle.std.specs.Prelude.{◌≡◌, ◌-◌, IfOk, None, OnOk, Some, length};
+ghost use Rattle.std.specs.Prelude.{◌≡◌, ◌-◌, IfOk, None, OnErr, OnOk, Some, length};
 ghost use Rattle.dup_machine.specs.Presses.{put_step};
 ghost use Rattle.dup_machine.specs.World as machine;
 ghost use Rattle.dup_machine.specs.World.Joined.{Done};
@@ -7,6 +7,7 @@ ghost use Rattle.dup_model.specs.Embeddings.{EmbedsEarlier};
 ghost use Rattle.dup_model.specs.Expansions.{notes};
 ghost use Rattle.dup_template.specs.Frame.{frame_of};
 ghost use Rattle.dup_press.specs.Pressed.{IsSamePlace, pressed};
+ghost use Rattle.dup_press.specs.Reached.{IsReached};
 ghost use Rattle.dup_press.specs.Settled.{PublishesLast, counts_to_last, left_to_expand};
 ghost use Rattle.dup_press.specs.Told.{IsSettled, summary_of};
 ghost use Rattle.dup_press.specs.Turns.{
@@ -52,6 +53,7 @@ where
             (pressed self.old)).1 ≡ pressed self.new) }
         ensures counted { OnOk result (meter.new ≡ ticked meter.old 1) }
         ensures place { IsSamePlace self.old self.new }
+        ensures err { OnErr result (self.new ≡ self.old) }
     {
         let expanded = expand(alloc, &job.content, &job.obj, meter)?;
         self.put(alloc, Arc::new(alloc, expanded)?)?;
@@ -65,6 +67,7 @@ where
             meter.old (pressed self.new) meter.new) }
         ensures calm { OnOk result (IsCalm self.old.works.journal.site (pressed self.new)) }
         ensures place { IsSamePlace self.old self.new }
+        ensures err { OnErr result (IsReached self.old self.new) }
     {
         while let Some(job) = self.hand(alloc)? {
             self.bring(alloc, &job, meter)?;
@@ -79,6 +82,7 @@ where
             (machine.Told.Joins Done) (pressed self.old) (pressed self.new)) }
         ensures all { OnOk result (IsJoined self.old.works.journal.site (pressed self.new)) }
         ensures place { IsSamePlace self.old self.new }
+        ensures err { OnErr result (IsReached self.old self.new) }
     {
         while let Joined::Level(_) = self.join(rt, alloc)? {}
         Ok(())
@@ -90,6 +94,7 @@ where
             machine.Told.NothingChanged (pressed self.old) (pressed self.new)) }
         ensures bundles { IfOk result (λ bundles. bundles ≡ length self.new.log - length self.old.log) }
         ensures place { IsSamePlace self.old self.new }
+        ensures err { OnErr result (IsReached self.old self.new) }
     {
         let before = self.edition();
         while let Published::Bundle { .. } = self.publish(alloc)? {}
@@ -106,6 +111,7 @@ where
         requires { IsWorking self.old.works.journal.site (pressed self.old) }
         ensures worked { IfOk result (λ summary. HasWorked self.old meter.old summary self.new meter.new) }
         ensures place { IsSamePlace self.old self.new }
+        ensures err { OnErr result (IsReached self.old self.new) }
     {
         self.expand_all(alloc, meter)?;
         self.join_all(rt, alloc)?;
@@ -136,6 +142,7 @@ where
         requires made { self.old.works.target ≡ Some (length self.old.works.journal.commits) }
         ensures published { IfOk result (λ summary. HasPublished self.old summary self.new) }
         ensures place { IsSamePlace self.old self.new }
+        ensures err { OnErr result (IsReached self.old self.new) }
     {
         let version = self.version();
         let kept = self.live();
@@ -153,7 +160,7 @@ where
     /// Publishes the last version: begins a work, expands all that waits, joins level by level, finishes,
     /// and publishes bundle by bundle until nothing is changed. The meter counts the expansions. Once it
     /// answers, nothing is pending. After want of memory some of these calls are done, and the press is as
-    /// these leave it.
+    /// these leave it: no commit came, and the log begins with the old one.
     ///
     /// The cost is that of these calls: it grows with what changed and what this affects.
     pub fn settle(
@@ -170,6 +177,9 @@ where
         ensures counts { IfOk result (λ summary. self.old.works.work ≡ None →
             summary ≡ summary_of self.old (counts_to_last self.old) self.new) }
         ensures place { IsSamePlace self.old self.new }
+
+        // Where it gave up, the press is one that events of a settle reach.
+        ensures err { OnErr result (IsReached self.old self.new) }
     {
         content_known(self.content());
         match self.begin(alloc)? {

@@ -13,5 +13,6 @@ pub mod MachineAnswers
 pub mod MachineTurns
 pub mod ScriptRowsComputed
 pub mod ScriptRuns
+pub mod Beginnings
 pub mod OnlyTable
 pub mod TableRead

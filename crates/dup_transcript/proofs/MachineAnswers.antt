@@ -563,7 +563,7 @@ module _ (site : Parts) (limits : Limits) where
     turn_exists w number command.Bad r = ([], (bad_line_text number, (refl, refl, refl)))
     turn_exists w number command.Status r = ([], (status_text (status site w), (refl, refl, refl)))
 
-    plays_from : (cs : List Command) (before : List Event) (number : ℕ) (last : Word) → IsReady site (run site limits before) → (out : Word) × PlaysBy site limits before number cs (all_kept cs) last out
+    pub plays_from : (cs : List Command) (before : List Event) (number : ℕ) (last : Word) → IsReady site (run site limits before) → (out : Word) × PlaysBy site limits before number cs (all_kept cs) last out
     plays_from [] before number last r = (last, refl)
     plays_from (c ∷ cs) before number last r =
         let t : Answered (run site limits before) (number + 1) c = turn_exists (run site limits before) (number + 1) c r in

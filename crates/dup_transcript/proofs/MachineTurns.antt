@@ -203,7 +203,7 @@ module _ (site : Parts) (limits : Limits) where
   keeps_publishes (suc n) w = keeps_then w (step site limits w Publish) _ (keeps_publish w) (keeps_publishes n (step site limits w Publish))
 
   -- handing leaves the nodes and the log
-  abbrev Stays : World → World → Type 0
+  abbrev pub Stays : World → World → Type 0
   Stays w v = (v.nodes ≡ w.nodes) × (v.log ≡ w.log)
 
   same_log : (w v : World) → v.log ≡ w.log → (more : List Bundle) × (w.log ++ more ≡ v.log)
@@ -213,7 +213,7 @@ module _ (site : Parts) (limits : Limits) where
   into_stays v None w = (refl, refl)
   into_stays v (Some o) w = (refl, refl)
 
-  hand_stays : (w : World) → Stays w (step site limits w (Hand 0))
+  pub hand_stays : (w : World) → Stays w (step site limits w (Hand 0))
   hand_stays w = by_slot (fin.get w.slots 0) w.work
     where
       by_slot : (held : Option Slot) (work : Option Work) → Stays w (handed site 0 work held w)
@@ -224,7 +224,7 @@ module _ (site : Parts) (limits : Limits) where
           into_stays work.version r.0 (with_press r.1 w)
 
   -- and where it is put back at once, the slot is empty
-  put_empties : (w : World) → Stays w (step site limits w (Put 0)) × (fin.get (step site limits w (Put 0)).slots 0 ≡ None)
+  pub put_empties : (w : World) → Stays w (step site limits w (Put 0)) × (fin.get (step site limits w (Put 0)).slots 0 ≡ None)
   put_empties w = by_slot (fin.get w.slots 0) refl
     where
       by_slot : (held : Option Slot) → fin.get w.slots 0 ≡ held → Stays w (put_from site 0 held w) × (fin.get (put_from site 0 held w).slots 0 ≡ None)

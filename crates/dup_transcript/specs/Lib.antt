@@ -16,4 +16,5 @@ pub mod CommandTable
 pub mod WrittenLines
 pub mod ScriptRows
 pub mod ScriptRuns
+pub mod Beginnings
 pub mod OnlyTable

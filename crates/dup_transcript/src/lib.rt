@@ -14,6 +14,7 @@ pub use example_rows::{
     catch_up_rows, medal_rows, next_rows, press_rows, results_rows, script_rows,
 };
 pub use output_laws::{
-    commands_law, lines_law, numbers_law, plays_law, runs_of_scripts_law, transcripts_law,
+    beginnings_law, commands_law, lines_law, numbers_law, plays_law, runs_of_scripts_law,
+    transcripts_law,
 };
 pub use task::Task;

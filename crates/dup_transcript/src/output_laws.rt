@@ -1,4 +1,5 @@
 //! What is read of an input, and what is written for it.
+ghost use Rattle.dup_transcript.specs.Beginnings.{BeginningsGoOn};
 ghost use Rattle.dup_transcript.specs.CommandTable.{EachIsRead};
 ghost use Rattle.dup_transcript.specs.MachinePlays.{
   CommandsLeaveReady,
@@ -39,6 +40,11 @@ pub fn transcripts_law()
     ensures one { TranscriptsAreOne }
     ensures told { TranscriptsTellKept }
     ensures others { OtherTasksHaveOne }
+{}
+
+/// What is written for the first lines of an input is the front of a transcript of all of it.
+pub fn beginnings_law()
+    ensures { BeginningsGoOn }
 {}
 
 /// What is written for a script is what the machine replies to events, and of their run the headline holds.

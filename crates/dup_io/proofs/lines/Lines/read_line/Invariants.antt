@@ -1,6 +1,7 @@
 use Rattle.std.proofs.Common.{◌≡◌, ◌+◌, ◌-◌, ◌≤◌, vec_len}
 use Rattle.std.specs.Option.{option_map}
 use Rattle.dup_io.specs.Lines.{ahead, to_read}
+use Rattle.dup_io.specs.Readings.{IsPart}
 use Rattle.dup_names.specs.Lines.{max_line, max_input}
 use Rattle.dup_io.proofs.Scan.{scan}
 use Rattle.dup_io.proofs.Turns.{Same}
@@ -10,6 +11,7 @@ abbrev pub invariant-bytes : goal.invariant-bytes
 invariant-bytes g l = record {
   same_reference : l.self.source.ghost_name ≡ l.fn.self.source.ghost_name;
   reads : Same (to_read g.S.Source.left l.fn.self) (option_map (scan l.fn.self.number l.fn.self.taken l.bytes.items) (ahead g.S.Source.left l.self));
+  part : IsPart l.bytes.items;
   number : l.self.number ≡ l.fn.self.number;
   taken : l.self.taken ≡ l.fn.self.taken;
   short : vec_len l.bytes ≤ max_line;

@@ -3,8 +3,9 @@ use Rattle.dup_build.specs.Answers.{joined_told}
 use Rattle.dup_build.specs.declared.answers.Joined.{Joined}
 use Rattle.dup_machine.specs.Presses.{join_step}
 use Rattle.dup_machine.specs.World as machine
-use Rattle.dup_press.specs.Pressed.{Tells}
+use Rattle.dup_press.specs.Pressed.{Tells, pressed}
 use Rattle.dup_press.proofs.Looping.{joining_done, joining_ends, joining_less, joining_more, joining_place, not_level}
+use Rattle.dup_press.proofs.Reaching.{whatever, ran_joins, reached_here}
 use Rattle.dup_press.proofs.press.Press.join_all.Goals as goal
 
 pub loop-preserved : goal.loop-preserved
@@ -29,4 +30,12 @@ returns g c =
       joined = joining_ends first now next c.loop.invariant c.in_ok-join.ensures.place (joined_told c.in_ok-join.field-0) c.in_ok-join.ensures.step other;
       all = joining_done first now next c.loop.invariant c.in_ok-join.ensures.place (joined_told c.in_ok-join.field-0) c.in_ok-join.ensures.step other;
       place = joining_place first now next c.loop.invariant c.in_ok-join.ensures.place (joined_told c.in_ok-join.field-0) c.in_ok-join.ensures.step other;
+      err = tt;
     }
+
+pub returns-in_err-join-clause-err : goal.returns-in_err-join-clause-err
+returns-in_err-join-clause-err g c =
+    let now = c.loop.self in
+    let is = c.loop.invariant in
+    whatever c.from_residual.result (reached_here c.args.self.now now c.join.new.self
+    (ran_joins c.args.self.now.works.journal.site (machine.Told.Joins machine.Joined.Done) is.count (pressed c.args.self.now) (pressed now) is.repeats) c.in_err-join.ensures.err)

@@ -1,4 +1,4 @@
-use Rattle.std.proofs.Common.{subst}
+use Rattle.std.proofs.Common.{refl, subst}
 use Rattle.dup_build.specs.Answers.{begun_told}
 use Rattle.dup_build.specs.declared.answers.Begun.{Begun}
 use Rattle.dup_machine.specs.Presses.{begin_step}
@@ -9,6 +9,8 @@ use Rattle.dup_press.specs.declared.answers.Summary.{Summary}
 use Rattle.dup_press.proofs.Looping.{not_nothing_begun, same_twice}
 use Rattle.dup_press.proofs.Settled.{left_idle, left_made, settled_at_once, settled_by_work}
 use Rattle.dup_press.proofs.Summaries.{Outcome, outcome_by_work, outcome_if_nothing}
+use Rattle.dup_press.proofs.Reaching.{whatever, ran_begin, ran_none, reached_here, reached_onward}
+use Rattle.dup_press.specs.Pressed.{pressed}
 use Rattle.dup_press.proofs.press.Press.settle.Goals as goal
 
 any_summary : Summary
@@ -58,4 +60,24 @@ returns-in_ok-summary-in_default g c =
       meter = outcome.meter;
       counts = outcome.counts;
       place = same_twice c.args.self.now c.begin.new.self c.work_off.new.self c.in_ok-begin.ensures.place c.in_ok-summary-in_default.ensures.place;
+      err = tt;
     }
+
+pub returns-in_err-begin-clause-err : goal.returns-in_err-begin-clause-err
+returns-in_err-begin-clause-err g c =
+    let old = c.args.self.now in
+    whatever c.from_residual.result (reached_here old old c.begin.new.self (ran_none old.works.journal.site (pressed old) (pressed old) refl) c.in_err-begin.ensures.err)
+
+pub returns-in_err-summary-in-Nothing-clause-err : goal.returns-in_err-summary-in-Nothing-clause-err
+returns-in_err-summary-in-Nothing-clause-err g c =
+    let old = c.args.self.now in
+    whatever c.from_residual-in_err-summary-in-Nothing.result (reached_onward old c.begin.new.self c.publish_left.new.self
+    (ran_begin old.works.journal.site (pressed old) (pressed c.begin.new.self) (machine.Told.Begins (begun_told c.in_ok-begin.field-0)) c.in_ok-begin.ensures.step)
+    c.in_ok-begin.ensures.place c.in_err-summary-in-Nothing.ensures.err)
+
+pub returns-in_err-summary-in_default-clause-err : goal.returns-in_err-summary-in_default-clause-err
+returns-in_err-summary-in_default-clause-err g c =
+    let old = c.args.self.now in
+    whatever c.from_residual-in_err-summary-in_default.result (reached_onward old c.begin.new.self c.work_off.new.self
+    (ran_begin old.works.journal.site (pressed old) (pressed c.begin.new.self) (machine.Told.Begins (begun_told c.in_ok-begin.field-0)) c.in_ok-begin.ensures.step)
+    c.in_ok-begin.ensures.place c.in_err-summary-in_default.ensures.err)

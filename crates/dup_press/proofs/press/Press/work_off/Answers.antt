@@ -12,6 +12,7 @@ use Rattle.dup_press.specs.Pressed.{IsSamePlace, Tells, pressed}
 use Rattle.dup_press.specs.Turns.{IsJoined, UntilTold, join_on, publish_on}
 use Rattle.dup_press.proofs.Looping.{same_twice, told_report, worked_log}
 use Rattle.dup_press.proofs.Settling.{finish_reports}
+use Rattle.dup_press.proofs.Reaching.{whatever, Ran, ran_finish, ran_joins, ran_turns, ran_twice, reached_here, reached_onward}
 use Rattle.dup_press.proofs.press.Press.work_off.Goals as goal
 
 pub unreachable-requires : goal.unreachable-requires
@@ -58,3 +59,46 @@ returns-clause-worked g c =
       };
       counted = c.in_ok-expand_all.ensures.handed.counted;
     }
+
+pub returns-in_err-join_all-clause-err : goal.returns-in_err-join_all-clause-err
+returns-in_err-join_all-clause-err g c =
+    let old = c.args.self.now in
+    let mid = c.expand_all.new.self in
+    let hands = c.in_ok-expand_all.ensures.handed.handed in
+    whatever c.from_residual-in_err-join_all.result (reached_onward old mid c.join_all.new.self
+    (ran_turns old.works.journal.site hands.count (pressed old) (pressed mid) hands.turns)
+    c.in_ok-expand_all.ensures.place c.in_err-join_all.ensures.err)
+
+pub returns-in_err-version-clause-err : goal.returns-in_err-version-clause-err
+returns-in_err-version-clause-err g c =
+    let old = c.args.self.now in
+    let mid = c.expand_all.new.self in
+    let now = c.join_all.new.self in
+    let hands = c.in_ok-expand_all.ensures.handed.handed in
+    let joins : UntilTold (join_on old.works.journal.site) (Joins Done) (pressed mid) (pressed now) =
+    subst (λ (s : Parts). UntilTold (join_on s) (Joins Done) (pressed mid) (pressed now)) c.in_ok-expand_all.ensures.place.site c.in_ok-join_all.ensures.joined in
+    whatever c.from_residual-in_err-version.result (reached_here old now c.finish.new.self
+    (ran_twice old.works.journal.site (pressed old) (pressed mid) (pressed now)
+    (ran_turns old.works.journal.site hands.count (pressed old) (pressed mid) hands.turns)
+    (ran_joins old.works.journal.site (Joins Done) joins.count (pressed mid) (pressed now) joins.repeats))
+    c.in_err-version.ensures.err)
+
+pub returns-in_err-bundles-clause-err : goal.returns-in_err-bundles-clause-err
+returns-in_err-bundles-clause-err g c =
+    let old = c.args.self.now in
+    let mid = c.expand_all.new.self in
+    let now = c.join_all.new.self in
+    let done = c.finish.new.self in
+    let hands = c.in_ok-expand_all.ensures.handed.handed in
+    let joins : UntilTold (join_on old.works.journal.site) (Joins Done) (pressed mid) (pressed now) =
+    subst (λ (s : Parts). UntilTold (join_on s) (Joins Done) (pressed mid) (pressed now)) c.in_ok-expand_all.ensures.place.site c.in_ok-join_all.ensures.joined in
+    let two : IsSamePlace old now = same_twice old mid now c.in_ok-expand_all.ensures.place c.in_ok-join_all.ensures.place in
+    let finishes : finish_step old.works.journal.site now.works.work now.works.target (pressed now) ≡ (Finished (finish_told c.in_ok-version.field-0), pressed done) =
+    subst (λ (s : Parts). finish_step s now.works.work now.works.target (pressed now) ≡ (Finished (finish_told c.in_ok-version.field-0), pressed done)) two.site c.in_ok-version.ensures.step in
+    whatever c.from_residual-in_err-bundles.result (reached_onward old done c.publish_all.new.self
+    (ran_twice old.works.journal.site (pressed old) (pressed now) (pressed done)
+    (ran_twice old.works.journal.site (pressed old) (pressed mid) (pressed now)
+    (ran_turns old.works.journal.site hands.count (pressed old) (pressed mid) hands.turns)
+    (ran_joins old.works.journal.site (Joins Done) joins.count (pressed mid) (pressed now) joins.repeats))
+    (ran_finish old.works.journal.site (pressed now) (pressed done) (Finished (finish_told c.in_ok-version.field-0)) finishes))
+    (same_twice old now done two c.in_ok-version.ensures.place) c.in_err-bundles.ensures.err)

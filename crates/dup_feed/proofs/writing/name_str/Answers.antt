@@ -1,0 +1,5 @@
+use Rattle.dup_feed.proofs.Utf8Words.{utf8_name}
+use Rattle.dup_feed.proofs.writing.name_str.Goals as goal
+
+pub str_of-requires : goal.str_of-requires
+str_of-requires c = rw c.bytes.ensures.value (utf8_name _ c.bytes.ensures.valid)

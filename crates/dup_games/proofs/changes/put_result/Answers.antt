@@ -1,0 +1,14 @@
+use Rattle.std.proofs.Common.{append_assoc, refl}
+use Rattle.dup_games.proofs.changes.put_result.Goals as goal
+
+pub returns : goal.returns
+returns c =
+    simp (
+      append_assoc,
+      c.in_ok-put.ensures,
+      c.in_ok-put_numbered-5.ensures,
+      c.in_ok-put_numbered-4.ensures,
+      c.in_ok-put_numbered-3.ensures,
+      c.in_ok-put_numbered-2.ensures,
+      c.in_ok-put_numbered.ensures,
+    ) refl

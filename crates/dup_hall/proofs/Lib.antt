@@ -1,0 +1,3 @@
+pub mod Acting
+pub mod Caches
+pub mod Reaching
